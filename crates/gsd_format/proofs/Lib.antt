@@ -1,0 +1,2 @@
+-- Laws of reading: what each definition depends on, and its equations.
+pub mod Refusals

@@ -1,0 +1,67 @@
+-- Laws of refusals: a chain refuses nothing exactly when none of its tests does.
+use Prim.Native.Nat.{ℕ, zero, suc, _≤_}
+use mathlib.Core.Path.{_≡_, refl, sym, _∙_}
+use mathlib.Core.Bool.{Bool, true, false, not, true≢false, _&&_, _||_}
+use native.Mathlib.Omega.{arith}
+use lib.Dec.{ltb, eqb}
+use borrow.Author.Tests.{ltb-false, eqb-true, not-false, le-ltb, eq-eqb}
+use Rattle.gsd_format.specs.Refusals.{_⇒_, _▹_}
+
+pub both : (a b : ℕ) → a ▹ b ≡ 0 → (a ≡ 0) × (b ≡ 0)
+unfolding _▹_
+both zero b h = (refl, h)
+both (suc a) b h = absurd (omega (arith, h))
+
+pub none-of : (a b : ℕ) → a ≡ 0 → b ≡ 0 → a ▹ b ≡ 0
+unfolding _▹_
+none-of zero b h g = g
+none-of (suc a) b h g = h
+
+pub first-of : (a b : ℕ) → a ≡ 0 → a ▹ b ≡ b
+unfolding _▹_
+first-of zero b h = refl
+first-of (suc a) b h = absurd (omega (arith, h))
+
+-- a test refuses nothing exactly when it does not hold
+pub unmet : (t : Bool) (n : ℕ) → t ⇒ suc n ≡ 0 → t ≡ false
+unfolding _⇒_
+unmet true n h = absurd (omega (arith, h))
+unmet false n h = refl
+
+pub passed : (t : Bool) (n : ℕ) → t ≡ false → t ⇒ n ≡ 0
+unfolding _⇒_
+passed true n h = absurd (true≢false h)
+passed false n h = refl
+
+pub neither : (a b : Bool) → (a || b) ≡ false → (a ≡ false) × (b ≡ false)
+neither true b h = absurd (true≢false h)
+neither false b h = (refl, h)
+
+pub neither-of : (a b : Bool) → a ≡ false → b ≡ false → (a || b) ≡ false
+neither-of true b h g = h
+neither-of false b h g = g
+
+pub both-true : (a b : Bool) → (a && b) ≡ true → (a ≡ true) × (b ≡ true)
+both-true true b h = (refl, h)
+both-true false b h = absurd (true≢false (sym h))
+
+pub both-of : (a b : Bool) → a ≡ true → b ≡ true → (a && b) ≡ true
+both-of true b h g = g
+both-of false b h g = h
+
+pub not-of : (t : Bool) → t ≡ true → not t ≡ false
+not-of true h = refl
+not-of false h = absurd (true≢false (sym h))
+
+-- the same for the commonest tests
+pub not-less : (a b n : ℕ) → ltb a b ⇒ suc n ≡ 0 → b ≤ a
+not-less a b n h = ltb-false a b (unmet (ltb a b) n h)
+
+pub less-no : (a b n : ℕ) → b ≤ a → ltb a b ⇒ n ≡ 0
+less-no a b n h = passed (ltb a b) n (le-ltb a b h)
+
+pub no-differ : (a b n : ℕ) → not (eqb a b) ⇒ suc n ≡ 0 → a ≡ b
+no-differ a b n h = eqb-true a b (not-false (eqb a b) (unmet (not (eqb a b)) n h))
+
+pub differ-no : (a b n : ℕ) → a ≡ b → not (eqb a b) ⇒ n ≡ 0
+differ-no a b n h = passed (not (eqb a b)) n (not-of (eqb a b) (eq-eqb a b h))

@@ -1,0 +1,15 @@
+-- What every call answers on any image, as definitions that run in the checker. An image is the list of its bytes.
+-- Each file is a chapter of the format; read them in this order.
+pub mod Bytes
+pub mod Ascii
+pub mod Refusals
+pub mod Types
+pub mod Header
+pub mod Names
+pub mod Entries
+pub mod Opening
+pub mod Lookup
+pub mod Elements
+pub mod Create
+pub mod Listing
+pub mod Answers

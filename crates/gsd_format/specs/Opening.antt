@@ -1,0 +1,82 @@
+-- Opening: the tests of numbers 1 to 17 in their order, and the counts answered where none applies.
+use Prim.Native.Nat.{ℕ, zero, suc, _+_, _*_, _^_}
+use mathlib.Core.List.{List, [], _∷_}
+use mathlib.Core.Bool.{Bool, false, not, _&&_, _||_}
+use lib.ListN.{getD, length, take}
+use lib.Dec.{ltb, leb, eqb}
+use Rattle.gsd_format.specs.declared.Entry.{Entry}
+use Rattle.gsd_format.specs.declared.Layout.{Layout}
+use Rattle.gsd_format.specs.declared.Counts.{Counts}
+use Rattle.gsd_format.specs.declared.Opening.{Opening}
+use Rattle.gsd_format.specs.Bytes.{same, zeroIn, meets}
+use Rattle.gsd_format.specs.Refusals.{_⇒_, _▹_}
+use Rattle.gsd_format.specs.Types.{known, chunkSize}
+use Rattle.gsd_format.specs.Header.{magic, version, headerSize, leastLength, greatestLength, versionOf, layoutOf}
+use Rattle.gsd_format.specs.Names.{namesOf, flat, indexOf}
+use Rattle.gsd_format.specs.Entries.{entriesOf, key, framesOf}
+
+-- 1 to 5: the slice's length, the magic, the version, application and schema
+unfoldable pub headerTest : List ℕ → ℕ
+headerTest img =
+    (ltb (length img) leastLength ⇒ 1)
+    ▹ (ltb greatestLength (length img) ⇒ 2)
+    ▹ (not (same (take 8 img) magic) ⇒ 3)
+    ▹ (not (eqb (versionOf img) version) ⇒ 4)
+    ▹ (not (zeroIn img 48 64) || not (zeroIn img 112 64) ⇒ 5)
+
+-- 6 to 8: each block lies between the header and the slice's end, and the two share no byte
+unfoldable pub blocksTest : Layout → ℕ
+blocksTest l =
+    (ltb (l .index) headerSize || ltb (l .len) (l .index + 32 * l .slots) ⇒ 6)
+    ▹ (ltb (l .namelist) headerSize || ltb (l .len) (l .namelist + 64 * l .segments) ⇒ 7)
+    ▹ (meets (l .index) (32 * l .slots) (l .namelist) (64 * l .segments) ⇒ 8)
+
+-- the greatest number of names
+abbrev pub mostNames : ℕ
+mostNames = 1024
+
+-- does the block go on with a name that has no zero byte before the block ends?
+abbrev pub unclosed : List ℕ → Layout → List (List ℕ) → Bool
+unclosed img l names = ltb (length (flat names)) (64 * l .segments) && not (eqb (getD img (l .namelist + length (flat names)) 0) 0)
+
+-- are two of the names equal?
+unfoldable pub twins : List (List ℕ) → Bool
+twins [] = false
+twins (n ∷ ns) = ltb (indexOf n ns) (length ns) || twins ns
+
+-- 9 to 11, each of the whole list
+unfoldable pub namesTest : List ℕ → Layout → List (List ℕ) → ℕ
+namesTest img l names = (unclosed img l names ⇒ 9) ▹ (ltb mostNames (length names) ⇒ 10) ▹ (twins names ⇒ 11)
+
+-- a listed entry follows one whose key is below least and whose frame is top - 1; both are 0 for the first entry
+abbrev pub follows : ℕ → ℕ → Entry → Bool
+follows least top e = leb least (key e) && leb (e .frame) top
+
+-- 12 to 17 for one entry, with so many names. A location from 2^63 on is negative
+unfoldable pub entryTest : Layout → ℕ → ℕ → ℕ → Entry → ℕ
+entryTest l names least top e =
+    (ltb (e .location) headerSize || leb (2 ^ 63) (e .location) ⇒ 12)
+    ▹ (not (known (e .kind)) ⇒ 13)
+    ▹ (leb names (e .id) ⇒ 14)
+    ▹ (not (follows least top e) ⇒ 15)
+    ▹ (ltb (l .len) (e .location + chunkSize e) ⇒ 16)
+    ▹ (meets (e .location) (chunkSize e) (l .index) (32 * l .slots) || meets (e .location) (chunkSize e) (l .namelist) (64 * l .segments) ⇒ 17)
+
+-- entry by entry: the first bad one decides
+unfoldable pub entriesTest : Layout → ℕ → ℕ → ℕ → List Entry → ℕ
+entriesTest l names least top [] = 0
+entriesTest l names least top (e ∷ es) = entryTest l names least top e ▹ entriesTest l names (key e + 1) (e .frame + 1) es
+
+-- the opening's number: the first test that applies
+unfoldable pub verdict : List ℕ → ℕ
+verdict img =
+    headerTest img
+    ▹ blocksTest (layoutOf img)
+    ▹ namesTest img (layoutOf img) (namesOf img)
+    ▹ entriesTest (layoutOf img) (length (namesOf img)) 0 0 (entriesOf img)
+
+unfoldable pub countsOf : List ℕ → Counts
+countsOf img = record { frames = framesOf (entriesOf img); names = length (namesOf img); entries = length (entriesOf img) }
+
+unfoldable pub opening : List ℕ → Opening
+opening img = elim (verdict img) [ zero ↦ Opening.Open (countsOf img) | suc k ↦ Opening.Refused (suc k) ]

@@ -1,0 +1,2 @@
+-- The theorems about appends and what leads to them.
+pub mod Table

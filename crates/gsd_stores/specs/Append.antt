@@ -1,0 +1,43 @@
+-- The append: numbers 21 to 29 after the opening's, and what it answers and leaves for any limit of stores.
+use Prim.Native.Nat.{ℕ, zero, suc, _+_, _%_, min}
+use mathlib.Core.List.{List, []}
+use mathlib.Core.Bool.{not, _||_}
+use lib.ListN.{length, take}
+use lib.Dec.{ltb, eqb}
+use Rattle.gsd_format.specs.declared.Layout.{Layout}
+use Rattle.gsd_format.specs.Refusals.{_⇒_, _▹_}
+use Rattle.gsd_format.specs.Opening.{verdict, mostNames}
+use Rattle.gsd_stores.specs.declared.Appended.{Appended}
+use Rattle.gsd_stores.specs.Sheet.{sheetTest, rowsOf}
+use Rattle.gsd_stores.specs.Stores.{Store, after}
+use Rattle.gsd_stores.specs.View.{View, viewOf}
+use Rattle.gsd_stores.specs.Plan.{planOf, newNames, finalPosition}
+use Rattle.gsd_stores.specs.Steps.{storeList}
+
+-- 28 and 29: what the plan needs of the image
+unfoldable pub planTest : List ℕ → List ℕ → ℕ
+planTest img sheet =
+    (ltb mostNames (length (viewOf img .names) + length (newNames (viewOf img .names) (rowsOf sheet))) ⇒ 28)
+    ▹ (ltb (viewOf img .layout .len) (finalPosition (planOf (viewOf img) (rowsOf sheet))) ⇒ 29)
+
+unfoldable pub appendTest : List ℕ → List ℕ → ℕ
+appendTest img sheet =
+    verdict img
+    ▹ (not (eqb (viewOf img .layout .index % 8) 0) || not (eqb (viewOf img .layout .namelist % 8) 0) ⇒ 21)
+    ▹ sheetTest sheet
+    ▹ planTest img sheet
+
+-- the stores of an append; a refused one makes none
+unfoldable pub storesFor : List ℕ → List ℕ → List Store
+storesFor img sheet = elim (appendTest img sheet) [ zero ↦ storeList img (rowsOf sheet) | suc k ↦ [] ]
+
+-- the first so many stores are done: the smaller of limit and whole
+unfoldable pub appendAnswer : List ℕ → List ℕ → ℕ → Appended
+appendAnswer img sheet limit = record {
+  number = appendTest img sheet;
+  done = min limit (length (storesFor img sheet));
+  whole = length (storesFor img sheet);
+}
+
+unfoldable pub appended : List ℕ → List ℕ → ℕ → List ℕ
+appended img sheet limit = after img (take (min limit (length (storesFor img sheet))) (storesFor img sheet))

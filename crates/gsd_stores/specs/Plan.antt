@@ -1,0 +1,93 @@
+-- What an append will do, from what it sees of the image and the rows: data, new names, new entries, and which blocks move.
+use Prim.Native.Nat.{ℕ, zero, suc, _+_, _*_, _-_, _/_, max}
+use mathlib.Core.List.{List, [], _∷_, _++_}
+use mathlib.Core.Bool.{Bool, true, false, cond}
+use lib.ListN.{length}
+use lib.Dec.{ltb, leb}
+use Rattle.gsd_format.specs.declared.Entry.{Entry}
+use Rattle.gsd_format.specs.declared.Layout.{Layout}
+use Rattle.gsd_format.specs.Bytes.{zeros, roundUp}
+use Rattle.gsd_format.specs.Names.{flat, indexOf}
+use Rattle.gsd_format.specs.Entries.{framesOf}
+use Rattle.gsd_stores.specs.Sheet.{Row}
+use Rattle.gsd_stores.specs.View.{View, alignment, endOfUse}
+
+pub record Plan : Type 0 where
+  -- where the data begin: the end of use
+  pub start : ℕ
+  -- all data, row by row, each padded
+  pub body : List ℕ
+  -- the new names in row order
+  pub fresh : List (List ℕ)
+  -- whether the name block moves, and the segments of the new one
+  pub namesMove : Bool
+  pub segments : ℕ
+  -- whether the index block moves, and the slots of the new one
+  pub indexMoves : Bool
+  pub slots : ℕ
+  -- the new entries, sorted by id
+  pub entries : List Entry
+
+-- data padded with zeros up to the next aligned place
+abbrev pub padded : List ℕ → List ℕ
+padded b = b ++ zeros (roundUp alignment (length b) - length b)
+
+unfoldable pub bodies : List Row → List ℕ
+bodies [] = []
+bodies (r ∷ rs) = padded (r .body) ++ bodies rs
+
+unfoldable pub newNames : List (List ℕ) → List Row → List (List ℕ)
+newNames names [] = []
+newNames names (r ∷ rs) = elim (ltb (indexOf (r .name) names) (length names)) [ true ↦ newNames names rs | false ↦ r .name ∷ newNames names rs ]
+
+-- the rows' entries in row order, their data from pos on; an empty chunk takes the current position as its location
+unfoldable pub newEntries : ℕ → ℕ → List (List ℕ) → List Row → List Entry
+newEntries pos frame names [] = []
+newEntries pos frame names (r ∷ rs) =
+    record { frame = frame; n = r .n; location = pos; m = r .m; id = indexOf (r .name) names; kind = r .kind; flags = 0 }
+    ∷ newEntries (pos + length (padded (r .body))) frame names rs
+
+-- sorted by id
+unfoldable pub inserted : Entry → List Entry → List Entry
+inserted e [] = e ∷ []
+inserted e (x ∷ xs) = elim (leb (e .id) (x .id)) [ true ↦ e ∷ x ∷ xs | false ↦ x ∷ inserted e xs ]
+
+unfoldable pub sorted : List Entry → List Entry
+sorted [] = []
+sorted (e ∷ es) = inserted e (sorted es)
+
+-- c doubled until it is at least need, with fuel for so many doublings
+unfoldable pub doubled : ℕ → ℕ → ℕ → ℕ
+doubled zero need c = c
+doubled (suc fuel) need c = elim (leb need c) [ true ↦ c | false ↦ doubled fuel need (2 * c) ]
+
+-- the old count (at least 1) doubled as often as needed, at least once
+abbrev pub grown : ℕ → ℕ → ℕ
+grown need old = doubled need need (2 * max 1 old)
+
+unfoldable pub planOf : View → List Row → Plan
+planOf v rs =
+    let fresh : List (List ℕ) = newNames (v .names) rs in
+    let entries : List Entry = sorted (newEntries (endOfUse v) (framesOf (v .entries)) (v .names ++ fresh) rs) in
+    let nameBytes : ℕ = length (flat (v .names)) + length (flat fresh) in
+    let count : ℕ = length (v .entries) + length entries in
+    record {
+      start = endOfUse v;
+      body = bodies rs;
+      fresh = fresh;
+      namesMove = ltb (64 * v .layout .segments) nameBytes;
+      segments = grown ((nameBytes + 63) / 64) (v .layout .segments);
+      indexMoves = ltb (v .layout .slots) count;
+      slots = grown count (v .layout .slots);
+      entries = entries;
+    }
+
+-- the current position after the data, after a new name block, and at the end: the final position
+abbrev pub dataEnd : Plan → ℕ
+dataEnd p = p .start + length (p .body)
+
+abbrev pub namesDone : Plan → ℕ
+namesDone p = cond (p .namesMove) (dataEnd p + 64 * p .segments) (dataEnd p)
+
+abbrev pub finalPosition : Plan → ℕ
+finalPosition p = cond (p .indexMoves) (namesDone p + 32 * p .slots) (namesDone p)

@@ -1,0 +1,78 @@
+-- The append sheet: a u32 count, 16 bytes for each row, then each row's name and data with nothing between; numbers 22 to 27.
+use Prim.Native.Nat.{ℕ, zero, suc, _+_, _*_}
+use mathlib.Core.List.{List, [], _∷_, map}
+use mathlib.Core.Bool.{Bool, false, not, _||_}
+use lib.ListN.{getD, length}
+use lib.Dec.{ltb, eqb}
+use Rattle.gsd_format.specs.Bytes.{le, part, zeroIn}
+use Rattle.gsd_format.specs.Refusals.{_⇒_, _▹_}
+use Rattle.gsd_format.specs.Types.{sizeOf, known}
+use Rattle.gsd_format.specs.Opening.{twins}
+
+-- a row as requested: its name, N, M, type and data
+pub record Row : Type 0 where
+  pub name : List ℕ
+  pub n : ℕ
+  pub m : ℕ
+  pub kind : ℕ
+  pub body : List ℕ
+
+-- A row of the table lies at a place t: N at 0, M at 8, type at 12, name length at 13, two zero bytes at 14
+abbrev pub rowKind : List ℕ → ℕ → ℕ
+rowKind s t = getD s (t + 12) 0
+
+abbrev pub nameSize : List ℕ → ℕ → ℕ
+nameSize s t = getD s (t + 13) 0
+
+unfoldable pub bodySize : List ℕ → ℕ → ℕ
+bodySize s t = le 8 s t * le 4 s (t + 8) * sizeOf (rowKind s t)
+
+abbrev pub badRow : List ℕ → ℕ → Bool
+badRow s t = not (known (rowKind s t)) || eqb (nameSize s t) 0 || not (eqb (le 2 s (t + 14)) 0)
+
+-- is one of the n rows from t bad?
+unfoldable pub badTable : List ℕ → ℕ → ℕ → Bool
+badTable s t zero = false
+badTable s t (suc n) = badRow s t || badTable s (t + 16) n
+
+-- where the bodies of the n rows from t end, if the first of them begins at q
+unfoldable pub bodiesEnd : List ℕ → ℕ → ℕ → ℕ → ℕ
+bodiesEnd s t q zero = q
+bodiesEnd s t q (suc n) = bodiesEnd s (t + 16) (q + nameSize s t + bodySize s t) n
+
+unfoldable pub rowsAt : List ℕ → ℕ → ℕ → ℕ → List Row
+rowsAt s t q zero = []
+rowsAt s t q (suc n) =
+    record { name = part s q (nameSize s t); n = le 8 s t; m = le 4 s (t + 8); kind = rowKind s t; body = part s (q + nameSize s t) (bodySize s t) }
+    ∷ rowsAt s (t + 16) (q + nameSize s t + bodySize s t) n
+
+abbrev pub rowCount : List ℕ → ℕ
+rowCount s = le 4 s 0
+
+-- the end of the table, where the first body begins
+abbrev pub tableEnd : List ℕ → ℕ
+tableEnd s = 4 + 16 * rowCount s
+
+unfoldable pub rowsOf : List ℕ → List Row
+rowsOf s = rowsAt s 4 (tableEnd s) (rowCount s)
+
+abbrev pub rowNames : List Row → List (List ℕ)
+rowNames rs = map (λ r. r .name) rs
+
+-- does one of the names hold a zero byte?
+unfoldable pub anyZero : List (List ℕ) → Bool
+anyZero [] = false
+anyZero (n ∷ ns) = zeroIn n 0 (length n) || anyZero ns
+
+-- the greatest number of rows
+abbrev pub mostRows : ℕ
+mostRows = 64
+
+unfoldable pub sheetTest : List ℕ → ℕ
+sheetTest s =
+    (ltb (length s) 4 || eqb (rowCount s) 0 || ltb mostRows (rowCount s) ⇒ 22)
+    ▹ (ltb (length s) (tableEnd s) ⇒ 23)
+    ▹ (badTable s 4 (rowCount s) ⇒ 24)
+    ▹ (not (eqb (length s) (bodiesEnd s 4 (tableEnd s) (rowCount s))) ⇒ 25)
+    ▹ (anyZero (rowNames (rowsOf s)) ⇒ 26)
+    ▹ (twins (rowNames (rowsOf s)) ⇒ 27)

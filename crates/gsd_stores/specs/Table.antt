@@ -1,0 +1,108 @@
+-- The worked cases that are proved: each a list of numbers computed by the definitions, and what it must be.
+use Prim.Native.Nat.{ℕ, _+_, _*_}
+use Prim.Native.String.{String}
+use mathlib.Core.List.{List, [], _∷_, _++_}
+use mathlib.Core.Bool.{Bool, true, _&&_}
+use lib.ListN.{getD, length}
+use Rattle.gsd_format.specs.declared.Entry.{Entry}
+use Rattle.gsd_format.specs.declared.Layout.{Layout}
+use Rattle.gsd_format.specs.Bytes.{same, leBytes, zeros}
+use Rattle.gsd_format.specs.Ascii.{ascii}
+use Rattle.gsd_format.specs.Header.{layoutOf}
+use Rattle.gsd_format.specs.Names.{namesOf}
+use Rattle.gsd_format.specs.Entries.{entriesOf}
+use Rattle.gsd_format.specs.Opening.{verdict}
+use Rattle.gsd_format.specs.Lookup.{lookup, none}
+use Rattle.gsd_format.specs.Create.{createNumber, created}
+use Rattle.gsd_format.specs.Listing.{printed}
+use Rattle.gsd_format.specs.Answers.{listedNumber}
+use Rattle.gsd_stores.specs.View.{View, viewOf, endOfUse}
+use Rattle.gsd_stores.specs.Sheet.{rowsOf}
+use Rattle.gsd_stores.specs.Plan.{Plan, planOf}
+use Rattle.gsd_stores.specs.Steps.{clearIndex, clearNames, storeData, moveNames, storeNames, moveIndex, storeEntries, nameBlock, indexBlock}
+use Rattle.gsd_stores.specs.Append.{appendTest, storesFor, appended}
+use Rattle.gsd_stores.specs.Runs.{frames}
+
+pub record Case : Type 0 where
+  pub says : String
+  pub got : List ℕ
+  pub expected : List ℕ
+
+-- a row of a sheet's table
+unfoldable pub tableRow : ℕ → ℕ → ℕ → List ℕ → List ℕ
+tableRow n m kind name = leBytes 8 n ++ leBytes 4 m ++ kind ∷ length name ∷ 0 ∷ 0 ∷ []
+
+-- three floats: 20.5, 21.25, 19.75
+abbrev pub readings : List ℕ
+readings = 0 ∷ 0 ∷ 0xa4 ∷ 0x41 ∷ 0 ∷ 0 ∷ 0xaa ∷ 0x41 ∷ 0 ∷ 0 ∷ 0x9e ∷ 0x41 ∷ []
+
+-- one row, "probe", float, N 3, M 1
+unfoldable pub sheetA : List ℕ
+sheetA = leBytes 4 1 ++ tableRow 3 1 9 (ascii "probe") ++ ascii "probe" ++ readings
+
+-- "probe" as before, "heater" u8 1 by 1
+unfoldable pub sheetB : List ℕ
+sheetB = leBytes 4 2 ++ tableRow 3 1 9 (ascii "probe") ++ tableRow 1 1 1 (ascii "heater") ++ ascii "probe" ++ readings ++ ascii "heater" ++ 80 ∷ []
+
+-- 2 slots, 1 segment, in a slice of so many bytes
+unfoldable pub freshIn : ℕ → List ℕ
+freshIn len = created (zeros len) [] [] 0 2 1
+
+unfoldable pub createdIn : ℕ → ℕ
+createdIn len = createNumber (zeros len) [] [] 2 1
+
+-- how many stores each step takes, and all of them
+unfoldable pub stepCounts : List ℕ → List ℕ → List ℕ
+stepCounts img sheet =
+    let v : View = viewOf img in
+    let p : Plan = planOf v (rowsOf sheet) in
+    length (clearIndex v) ∷ length (clearNames v) ∷ length (storeData p) ∷ length (moveNames v p)
+    ∷ length (storeNames (nameBlock v p) (v .names) (p .fresh)) ∷ length (moveIndex img v p)
+    ∷ length (storeEntries (indexBlock v p + 32 * length (v .entries)) (p .entries)) ∷ length (storesFor img sheet) ∷ []
+
+-- verdict, frames, names, entries
+unfoldable pub shown : List ℕ → List ℕ
+shown img = verdict img ∷ frames img ∷ length (namesOf img) ∷ length (entriesOf img) ∷ []
+
+abbrev pub endIn : List ℕ → ℕ
+endIn img = endOfUse (viewOf img)
+
+unfoldable pub table : List Case
+table =
+    let x : List ℕ = freshIn 1024 in
+    let a22 : List ℕ = appended x sheetA 22 in
+    let a : List ℕ = appended x sheetA 23 in
+    let b34 : List ℕ = appended a sheetB 34 in
+    let b : List ℕ = appended a sheetB 43 in
+    let a552 : List ℕ = appended (freshIn 552) sheetA 23 in
+    let a551 : List ℕ = appended (freshIn 551) sheetA 23 in
+    record { says = "a fresh image: end of use 384, 0 frames"; got = endIn x ∷ shown x; expected = 384 ∷ 0 ∷ 0 ∷ 0 ∷ 0 ∷ [] }
+    ∷ record { says = "383 bytes: 52"; got = createdIn 383 ∷ []; expected = 52 ∷ [] }
+    ∷ record { says = "384: made"; got = createdIn 384 ∷ shown (freshIn 384); expected = 0 ∷ 0 ∷ 0 ∷ 0 ∷ 0 ∷ [] }
+    ∷ record { says = "sheet A, 37 bytes: 8 + 8 + 2 + 1 + 4 = 23 stores"; got = length sheetA ∷ stepCounts x sheetA; expected = 37 ∷ 8 ∷ 8 ∷ 2 ∷ 0 ∷ 1 ∷ 0 ∷ 4 ∷ 23 ∷ [] }
+    ∷ record { says = "after 22: 0 frames, 1 name"; got = shown a22; expected = 0 ∷ 0 ∷ 1 ∷ 0 ∷ [] }
+    ∷ record {
+      says = "after 23: 1 frame, location 384, end of use 400, and what the program prints";
+      got = shown a ++ getD (entriesOf a) 0 none .location ∷ endIn a ∷ printed a;
+      expected = 0 ∷ 1 ∷ 1 ∷ 1 ∷ 384 ∷ 400 ∷ ascii "frames 1 names 1 entries 1\n0 0 9 3 1 384\n";
+    }
+    ∷ record {
+      says = "sheet B next, 60 bytes: 4 + 8 + 3 + 2 + 18 + 8 = 43 stores; the index moves to 424 with 4 slots, end of use 552";
+      got = length sheetB ∷ stepCounts a sheetB ++ shown b ++ layoutOf b .index ∷ layoutOf b .slots ∷ endIn b ∷ [];
+      expected = 60 ∷ 4 ∷ 8 ∷ 3 ∷ 0 ∷ 2 ∷ 18 ∷ 8 ∷ 43 ∷ 0 ∷ 2 ∷ 2 ∷ 3 ∷ 424 ∷ 4 ∷ 552 ∷ [];
+    }
+    ∷ record {
+      says = "after store 34 the header says 424 with 2 slots, and 1 entry is listed";
+      got = layoutOf b34 .index ∷ layoutOf b34 .slots ∷ shown b34;
+      expected = 424 ∷ 2 ∷ 0 ∷ 1 ∷ 2 ∷ 1 ∷ [];
+    }
+    ∷ record { says = "in a slice of 552 it fits"; got = appendTest a552 sheetB ∷ shown (appended a552 sheetB 43); expected = 0 ∷ 0 ∷ 2 ∷ 2 ∷ 3 ∷ [] }
+    ∷ record { says = "in 551: 29"; got = appendTest a551 sheetB ∷ []; expected = 29 ∷ [] }
+    ∷ record { says = "frame 0, heater, after B: 42"; got = listedNumber (lookup b 0 (ascii "heater")) ∷ []; expected = 42 ∷ [] }
+    ∷ record { says = "frame 2: 40"; got = listedNumber (lookup b 2 (ascii "probe")) ∷ []; expected = 40 ∷ [] }
+    ∷ record { says = "name fan: 41"; got = listedNumber (lookup b 1 (ascii "fan")) ∷ []; expected = 41 ∷ [] }
+    ∷ []
+
+unfoldable pub passes : List Case → Bool
+passes [] = true
+passes (c ∷ cs) = same (c .got) (c .expected) && passes cs
