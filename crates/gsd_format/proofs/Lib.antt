@@ -1,2 +1,3 @@
 -- Laws of reading: what each definition depends on, and its equations.
 pub mod Refusals
+pub mod Bytes

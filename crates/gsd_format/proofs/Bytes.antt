@@ -1,0 +1,213 @@
+-- Laws of bytes: numbers and parts depend on the bytes they read, a number reads back, and what a store changes.
+use Prim.Native.Nat.{ℕ, zero, suc, _+_, _*_, _/_, _%_, _^_, _≤_, _<_, max, min}
+use mathlib.Core.Path.{_≡_, refl, sym, _∙_, ap}
+use mathlib.Core.Bool.{Bool, true, false, true≢false}
+use mathlib.Core.List.{List, [], _∷_}
+use native.Mathlib.Nat.{add-zero, add-assoc, pow-suc}
+use native.Mathlib.Numerals.{add-one}
+use native.Mathlib.Decide.{ℕ-discrete, decLt}
+use native.Mathlib.Omega.{arith}
+use lib.ListN.{length, getD, set, length-set, length-take, length-drop}
+use lib.Seq.{getD-set-same, getD-set-other, getD-take, getD-drop, ext-getD}
+use lib.Dec.{eqb}
+use borrow.Author.Tests.{eqb-true, eqb-false, eq-eqb, ne-eqb, ltb-false, le-ltb}
+use Rattle.gsd_format.specs.Bytes.{le, leBytes, part, same, zeroIn, stored, meets}
+
+-- the n bytes of x from a are those of y from b
+abbrev pub Same : List ℕ → ℕ → List ℕ → ℕ → ℕ → Type 0
+Same x a y b n = (k : ℕ) → k < n → getD x (a + k) 0 ≡ getD y (b + k) 0
+
+-- the bytes of the text t stand in x from at
+abbrev pub Text : List ℕ → ℕ → List ℕ → Type 0
+Text x at t = (k : ℕ) → k < length t → getD x (at + k) 0 ≡ getD t k 0
+
+-- every number of the list is a byte
+abbrev pub Octets : List ℕ → Type 0
+Octets s = (i : ℕ) → getD s i 0 < 256
+
+-- no byte lies in both stretches
+abbrev pub Apart : ℕ → ℕ → ℕ → ℕ → Type 0
+Apart a n b m = (p : ℕ) → a ≤ p → p < a + n → b ≤ p → p < b + m → ⊥
+
+-- Numbers
+
+pub same-head : (x : List ℕ) (a : ℕ) (y : List ℕ) (b n : ℕ) → Same x a y b (suc n) → getD x a 0 ≡ getD y b 0
+same-head x a y b n h = ap (λ i. getD x i 0) (sym (add-zero a)) ∙ h 0 (omega arith) ∙ ap (λ i. getD y i 0) (add-zero b)
+
+pub same-tail : (x : List ℕ) (a : ℕ) (y : List ℕ) (b n : ℕ) → Same x a y b (suc n) → Same x (a + 1) y (b + 1) n
+same-tail x a y b n h k l =
+    ap (λ i. getD x i 0) (let e : a + 1 + k ≡ a + suc k = omega arith in e) ∙ h (suc k) (omega arith)
+    ∙ ap (λ i. getD y i 0) (let e : b + suc k ≡ b + 1 + k = omega arith in e)
+
+-- the same bytes n further on
+pub same-from : (x : List ℕ) (a : ℕ) (y : List ℕ) (b i n : ℕ) → Same x a y b (i + n) → Same x (a + i) y (b + i) n
+same-from x a y b i n h k l =
+    ap (λ j. getD x j 0) (let e : a + i + k ≡ a + (i + k) = omega arith in e) ∙ h (i + k) (omega arith)
+    ∙ ap (λ j. getD y j 0) (let e : b + (i + k) ≡ b + i + k = omega arith in e)
+
+-- a number depends on its bytes alone
+pub le-same : (n : ℕ) (x : List ℕ) (a : ℕ) (y : List ℕ) (b : ℕ) → Same x a y b n → le n x a ≡ le n y b
+unfolding le
+le-same zero x a y b h = refl
+le-same (suc n) x a y b h = let e : le n x (a + 1) ≡ le n y (b + 1) = le-same n x (a + 1) y (b + 1) (same-tail x a y b n h) in omega (arith, same-head x a y b n h)
+
+pub le-bound : (n : ℕ) (s : List ℕ) (i : ℕ) → Octets s → le n s i < 256 ^ n
+unfolding le
+le-bound zero s i h = omega arith
+le-bound (suc n) s i h = omega (arith, pow-suc 256 n, le-bound n s (i + 1) h, h i)
+
+pub leBytes-length : (n w : ℕ) → length (leBytes n w) ≡ n
+unfolding leBytes
+leBytes-length zero w = refl
+leBytes-length (suc n) w = ap suc (leBytes-length n (w / 256))
+
+-- a number reads back
+pub le-back : (n w : ℕ) → w < 256 ^ n → le n (leBytes n w) 0 ≡ w
+unfolding le leBytes
+le-back zero w h = omega arith
+le-back (suc n) w h =
+    let e : le n (w % 256 ∷ leBytes n (w / 256)) 1 ≡ le n (leBytes n (w / 256)) 0 = le-same n (w % 256 ∷ leBytes n (w / 256)) 1 (leBytes n (w / 256)) 0 (λ k l. rw (add-one-left k)) in
+    omega (arith, le-back n (w / 256) (omega (arith, pow-suc 256 n)))
+  where
+    add-one-left : (k : ℕ) → 1 + k ≡ suc (0 + k)
+    add-one-left k = omega arith
+
+-- a number stands where its bytes stand
+pub le-text : (n w : ℕ) (x : List ℕ) (at : ℕ) → w < 256 ^ n → Text x at (leBytes n w) → le n x at ≡ w
+le-text n w x at h t = le-same n x at (leBytes n w) 0 (λ k l. t k (rw leBytes-length l) ∙ ap (λ i. getD (leBytes n w) i 0) (omega arith)) ∙ le-back n w h
+
+-- numbers of four and eight bytes by their halves
+pub le-four : (s : List ℕ) (i : ℕ) → le 4 s i ≡ le 2 s i + 65536 * le 2 s (i + 2)
+unfolding le
+le-four s i = simp add-assoc (omega arith)
+
+pub le-eight : (s : List ℕ) (i : ℕ) → le 8 s i ≡ le 4 s i + 4294967296 * le 4 s (i + 4)
+unfolding le
+le-eight s i = simp add-assoc (omega arith)
+
+-- Parts
+
+pub part-length : (s : List ℕ) (i n : ℕ) → i + n ≤ length s → length (part s i n) ≡ n
+part-length s i n h = simp (length-take, length-drop) (omega arith)
+
+pub part-at : (s : List ℕ) (i n k : ℕ) → k < n → getD (part s i n) k 0 ≡ getD s (i + k) 0
+part-at s i n k h = rw (getD-take, getD-drop)
+
+-- a part depends on its bytes alone
+pub part-same : (x : List ℕ) (a : ℕ) (y : List ℕ) (b n : ℕ) → a + n ≤ length x → b + n ≤ length y → Same x a y b n → part x a n ≡ part y b n
+part-same x a y b n f g h =
+    ext-getD 0 (part x a n) (part y b n) (part-length x a n f ∙ sym (part-length y b n g))
+    (λ i l. let m : i < n = rw (part-length x a n f) at l in part-at x a n i m ∙ h i m ∙ sym (part-at y b n i m))
+
+-- Comparison, zeros, stretches
+
+pub same-refl : (s : List ℕ) → same s s ≡ true
+unfolding same
+same-refl [] = refl
+same-refl (a ∷ s) = rw (eq-eqb a a refl, same) (same-refl s)
+
+pub eq-same : (s t : List ℕ) → s ≡ t → same s t ≡ true
+eq-same s t e = rw (← e) (same-refl s)
+
+pub same-eq : (s t : List ℕ) → same s t ≡ true → s ≡ t
+unfolding same
+same-eq [] [] h = refl
+same-eq [] (b ∷ t) h = absurd (true≢false (sym h))
+same-eq (a ∷ s) [] h = absurd (true≢false (sym h))
+same-eq (a ∷ s) (b ∷ t) h = go (same-eq s t) (ℕ-discrete a b) h
+  where
+    go : (same s t ≡ true → s ≡ t) → Dec (a ≡ b) → same (a ∷ s) (b ∷ t) ≡ true → _≡_ {A = List ℕ} (a ∷ s) (b ∷ t)
+    go f (yes e) h = let g : s ≡ t = f (rw (eq-eqb a b e, same) at h) in cc
+    go f (no e) h = absurd (true≢false (sym (rw (ne-eqb a b e, same) at h)))
+
+pub ne-same : (s t : List ℕ) → (s ≡ t → ⊥) → same s t ≡ false
+ne-same s t n = go (same s t) refl
+  where
+    go : (b : Bool) → same s t ≡ b → same s t ≡ false
+    go true e = absurd (n (same-eq s t e))
+    go false e = e
+
+-- a zero is found, with its place, or there is none
+pub zero-found : (s : List ℕ) (i n : ℕ) → zeroIn s i n ≡ true → (k : ℕ) × (k < n) × (getD s (i + k) 0 ≡ 0)
+unfolding zeroIn
+zero-found s i zero h = absurd (true≢false (sym h))
+zero-found s i (suc n) h = go (zero-found s (i + 1) n) (ℕ-discrete (getD s i 0) 0) h
+  where
+    go : (zeroIn s (i + 1) n ≡ true → (k : ℕ) × (k < n) × (getD s (i + 1 + k) 0 ≡ 0)) → Dec (getD s i 0 ≡ 0) → zeroIn s i (suc n) ≡ true → (k : ℕ) × (k < suc n) × (getD s (i + k) 0 ≡ 0)
+    go f (yes e) h = (0, omega arith, rw add-zero e)
+    go f (no e) h =
+        let r : (k : ℕ) × (k < n) × (getD s (i + 1 + k) 0 ≡ 0) = f (rw (ne-eqb (getD s i 0) 0 e, zeroIn) at h) in
+        (suc (r .0), omega arith, ap (λ j. getD s j 0) (let q : i + suc (r .0) ≡ i + 1 + r .0 = omega arith in q) ∙ r .2)
+
+pub no-zero : (s : List ℕ) (i n : ℕ) → zeroIn s i n ≡ false → (k : ℕ) → k < n → getD s (i + k) 0 ≡ 0 → ⊥
+unfolding zeroIn
+no-zero s i zero h k l z = omega arith
+no-zero s i (suc n) h k l z = go (no-zero s (i + 1) n) (ℕ-discrete (getD s i 0) 0) h k l z
+  where
+    go : (zeroIn s (i + 1) n ≡ false → (k : ℕ) → k < n → getD s (i + 1 + k) 0 ≡ 0 → ⊥) → Dec (getD s i 0 ≡ 0) → zeroIn s i (suc n) ≡ false → (k : ℕ) → k < suc n → getD s (i + k) 0 ≡ 0 → ⊥
+    go f (yes e) h k l z = true≢false (rw (eq-eqb (getD s i 0) 0 e, zeroIn) at h)
+    go f (no e) h zero l z = e (ap (λ j. getD s j 0) (sym (add-zero i)) ∙ z)
+    go f (no e) h (suc k) l z = f (rw (ne-eqb (getD s i 0) 0 e, zeroIn) at h) k (omega arith) (ap (λ j. getD s j 0) (let q : i + 1 + k ≡ i + suc k = omega arith in q) ∙ z)
+
+pub zero-in : (s : List ℕ) (i n k : ℕ) → k < n → getD s (i + k) 0 ≡ 0 → zeroIn s i n ≡ true
+zero-in s i n k l z = go (zeroIn s i n) refl
+  where
+    go : (b : Bool) → zeroIn s i n ≡ b → zeroIn s i n ≡ true
+    go true e = e
+    go false e = absurd (no-zero s i n e k l z)
+
+pub zero-out : (s : List ℕ) (i n : ℕ) → ((k : ℕ) → k < n → getD s (i + k) 0 ≡ 0 → ⊥) → zeroIn s i n ≡ false
+zero-out s i n f = go (zeroIn s i n) refl
+  where
+    go : (b : Bool) → zeroIn s i n ≡ b → zeroIn s i n ≡ false
+    go true e = let r : (k : ℕ) × (k < n) × (getD s (i + k) 0 ≡ 0) = zero-found s i n e in absurd (f (r .0) (r .1) (r .2))
+    go false e = e
+
+pub zeroIn-same : (n : ℕ) (x : List ℕ) (a : ℕ) (y : List ℕ) (b : ℕ) → Same x a y b n → zeroIn x a n ≡ zeroIn y b n
+unfolding zeroIn
+zeroIn-same zero x a y b h = refl
+zeroIn-same (suc n) x a y b h =
+    let e : getD x a 0 ≡ getD y b 0 = same-head x a y b n h in
+    let t : zeroIn x (a + 1) n ≡ zeroIn y (b + 1) n = zeroIn-same n x (a + 1) y (b + 1) (same-tail x a y b n h) in
+    λ i. elim (eqb (e i) 0) [ true ↦ true | false ↦ t i ]
+
+-- two stretches share no byte exactly when the test says so
+pub meets-apart : (a n b m : ℕ) → meets a n b m ≡ false → Apart a n b m
+meets-apart a n b m h p i j k l = omega (arith, ltb-false (max a b) (min (a + n) (b + m)) h)
+
+pub apart-meets : (a n b m : ℕ) → Apart a n b m → meets a n b m ≡ false
+apart-meets a n b m h = le-ltb _ _ (go (decLt (max a b) (min (a + n) (b + m))))
+  where
+    go : Dec (max a b < min (a + n) (b + m)) → min (a + n) (b + m) ≤ max a b
+    go (yes e) = absurd (h (max a b) (omega arith) (omega arith) (omega arith) (omega arith))
+    go (no e) = omega arith
+
+-- Stores
+
+pub stored-length : (s : List ℕ) (i : ℕ) (bs : List ℕ) → length (stored s i bs) ≡ length s
+unfolding stored
+stored-length s i [] = refl
+stored-length s i (b ∷ bs) = stored-length (set s i b) (i + 1) bs ∙ length-set s i b
+
+pub stored-below : (s : List ℕ) (i : ℕ) (bs : List ℕ) (k : ℕ) → k < i → getD (stored s i bs) k 0 ≡ getD s k 0
+unfolding stored
+stored-below s i [] k h = refl
+stored-below s i (b ∷ bs) k h = stored-below (set s i b) (i + 1) bs k (omega arith) ∙ getD-set-other s i k b 0 (λ e. omega arith)
+
+pub stored-above : (s : List ℕ) (i : ℕ) (bs : List ℕ) (k : ℕ) → i + length bs ≤ k → getD (stored s i bs) k 0 ≡ getD s k 0
+unfolding stored
+stored-above s i [] k h = refl
+stored-above s i (b ∷ bs) k h = stored-above (set s i b) (i + 1) bs k (omega arith) ∙ getD-set-other s i k b 0 (λ e. omega arith)
+
+pub stored-inside : (s : List ℕ) (i : ℕ) (bs : List ℕ) (k : ℕ) → i + length bs ≤ length s → k < length bs → getD (stored s i bs) (i + k) 0 ≡ getD bs k 0
+unfolding stored
+stored-inside s i [] k h l = absurd (omega arith)
+stored-inside s i (b ∷ bs) zero h l = rw add-zero (stored-below (set s i b) (i + 1) bs i (omega arith) ∙ getD-set-same s i b 0 (omega arith))
+stored-inside s i (b ∷ bs) (suc k) h l =
+    ap (λ (n : ℕ). getD (stored (set s i b) (i + 1) bs) n 0) (omega arith)
+    ∙ stored-inside (set s i b) (i + 1) bs k (simp length-set (omega arith)) (omega arith)
+
+-- a word that is stored reads back
+pub stored-back : (s : List ℕ) (i n w : ℕ) → i + n ≤ length s → w < 256 ^ n → le n (stored s i (leBytes n w)) i ≡ w
+stored-back s i n w h l =
+    le-text n w (stored s i (leBytes n w)) i l (λ k m. stored-inside s i (leBytes n w) k (rw leBytes-length h) m)
