@@ -1,3 +1,4 @@
 -- Laws of reading: what each definition depends on, and its equations.
+pub mod Lists
 pub mod Refusals
 pub mod Bytes
