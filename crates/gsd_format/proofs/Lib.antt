@@ -2,4 +2,5 @@
 pub mod Refusals
 pub mod Bytes
 pub mod Entries
+pub mod Verdict
 pub mod Lookup
