@@ -2,4 +2,6 @@
 pub mod Each
 pub mod Stores
 pub mod Phases
+pub mod Keep
+pub mod Runs
 pub mod Table
