@@ -5,4 +5,5 @@ pub mod Bytes
 pub mod Texts
 pub mod Names
 pub mod Entries
+pub mod Verdict
 pub mod Lookup
