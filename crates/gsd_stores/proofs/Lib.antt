@@ -2,4 +2,5 @@
 pub mod Each
 pub mod Stores
 pub mod Phases
+pub mod View
 pub mod Table
