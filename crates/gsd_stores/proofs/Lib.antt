@@ -3,4 +3,5 @@ pub mod Each
 pub mod Stores
 pub mod Phases
 pub mod View
+pub mod Good
 pub mod Table
