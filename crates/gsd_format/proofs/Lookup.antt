@@ -29,11 +29,11 @@ pub record Stands (es : List Entry) (frame id : ℕ) (e : Entry) : Type 0 where
   pub sameFrame : e .frame ≡ frame
   pub sameId : e .id ≡ id
 
-placed-frame : {es : List Entry} {frame id : ℕ} {e : Entry} (s : Stands es frame id e) → getD es (s .place) none .frame ≡ frame
-placed-frame s = ap (λ c. c .frame) (s .there) ∙ s .sameFrame
+pub stands-frame : {es : List Entry} {frame id : ℕ} {e : Entry} (s : Stands es frame id e) → getD es (s .place) none .frame ≡ frame
+stands-frame s = ap (λ c. c .frame) (s .there) ∙ s .sameFrame
 
-placed-id : {es : List Entry} {frame id : ℕ} {e : Entry} (s : Stands es frame id e) → getD es (s .place) none .id ≡ id
-placed-id s = ap (λ c. c .id) (s .there) ∙ s .sameId
+pub stands-id : {es : List Entry} {frame id : ℕ} {e : Entry} (s : Stands es frame id e) → getD es (s .place) none .id ≡ id
+stands-id s = ap (λ c. c .id) (s .there) ∙ s .sameId
 
 -- no entry of the list has this frame and id
 abbrev pub Lacks : List Entry → ℕ → ℕ → Type 0
@@ -112,19 +112,19 @@ find-lacks frame id es k h = go (find-is frame id es) h
     go (found s) h = let z : _≡_ {A = ℕ} 0 1 = cc in absurd (omega arith)
     go (missing m) h = m
 
--- whatever has the frame and the id is found where they are at one place only, or where all that have them are equal
+-- an entry is found wherever it stands, if all entries with its frame and id are equal to it; so in an ordered list always
 pub find-any : (frame id : ℕ) (es : List Entry) (e : Entry) → Stands es frame id e →
     ((i : ℕ) → i < length es → getD es i none .frame ≡ frame → getD es i none .id ≡ id → getD es i none ≡ e) → findEntry frame id es ≡ Listed.Found e
 find-any frame id es e s one = go (find-is frame id es) refl
   where
     go : {r : Listed} → Sought es frame id r → findEntry frame id es ≡ r → findEntry frame id es ≡ Listed.Found e
-    go (found t) h = h ∙ ap Listed.Found (sym (t .there) ∙ one (t .place) (t .within) (placed-frame t) (placed-id t))
-    go (missing m) h = absurd (m (s .place) (s .within) (placed-frame s) (placed-id s))
+    go (found t) h = h ∙ ap Listed.Found (sym (t .there) ∙ one (t .place) (t .within) (stands-frame t) (stands-id t))
+    go (missing m) h = absurd (m (s .place) (s .within) (stands-frame s) (stands-id s))
 
 pub find-ordered : (frame id : ℕ) (es : List Entry) (least top : ℕ) → Ordered least top es → (e : Entry) → Stands es frame id e →
     findEntry frame id es ≡ Listed.Found e
 find-ordered frame id es least top h e s = find-any frame id es e s (λ i l f d.
-    ap (λ j. getD es j none) (one-place es least top h i (s .place) l (s .within) (f ∙ sym (placed-frame s)) (d ∙ sym (placed-id s))) ∙ s .there)
+    ap (λ j. getD es j none) (one-place es least top h i (s .place) l (s .within) (f ∙ sym (stands-frame s)) (d ∙ sym (stands-id s))) ∙ s .there)
 
 -- Entries behind a list
 
@@ -264,7 +264,7 @@ look-back es more ns ms frame name e f ids old same h =
     let it : findEntry frame id es ≡ Listed.Found e =
     sym (find-back frame id es more (λ i l g d. omega (arith, old i l))) ∙ look-found (es ++ more) ms frame name e .0 h .2 in
     let s : Stands es frame id e = find-sound frame id es e it in
-    let l : id < length ns = omega (arith, placed-id s, ids (s .place) (s .within)) in
+    let l : id < length ns = omega (arith, stands-id s, ids (s .place) (s .within)) in
     look-entry es ns frame name f (omega (arith, same l)) ∙ rw (same l) it
 
 -- The calls: each answers of an image that opens, and passes on the opening's number of any other

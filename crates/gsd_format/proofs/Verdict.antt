@@ -136,7 +136,7 @@ entry-zero l names least top e = (to, from)
         (none-of _ _ (less-no _ _ _ (s .within))
         (passed _ _ (neither-of _ _ (apart-meets _ _ _ _ (s .offIndex)) (apart-meets _ _ _ _ (s .offNames))))))))
 
--- every entry is sound, and they are in order
+-- 12 to 17: every entry is sound, and they are in order
 abbrev pub AllSound : Layout → ℕ → List Entry → Type 0
 AllSound l names es = (i : ℕ) → i < length es → Sound l names (getD es i none)
 
@@ -213,7 +213,7 @@ opening-refused x number h = rw (h, opening)
 
 -- What the header's numbers depend on
 
--- the places and counts of the two blocks stand in words 8 to 39
+-- the places and counts of the two blocks stand in bytes 8 to 39
 pub layout-same : (x y : List ℕ) → length x ≡ length y → Same x 8 y 8 32 → layoutOf x ≡ layoutOf y
 unfolding layoutOf
 layout-same x y l h =
