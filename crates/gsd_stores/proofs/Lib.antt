@@ -4,4 +4,6 @@ pub mod Stores
 pub mod Phases
 pub mod Keep
 pub mod Runs
+pub mod View
+pub mod Good
 pub mod Table

@@ -1,21 +1,20 @@
 -- From one append to a run of appends: what holds at every moment of a call holds at every moment of a run.
 use Prim.Native.Nat.{ℕ, zero, suc, _+_, _≤_, _<_, min}
 use mathlib.Core.Path.{_≡_, refl, sym, _∙_, ap}
-use mathlib.Core.Bool.{Bool, true, false, true≢false, _&&_}
+use mathlib.Core.Bool.{Bool, true, false, true≢false}
 use mathlib.Core.List.{List, [], _∷_}
 use native.Mathlib.Nat.{add-zero}
 use native.Mathlib.Decide.{ℕ-discrete, decLt, decLe}
 use native.Mathlib.Omega.{arith}
 use lib.ListN.{length, getD, take}
 use lib.Seq.{take-all, take-nil}
-use lib.Dec.{eqb, leb}
-use borrow.Author.Tests.{eqb-true, eq-eqb, ne-eqb, leb-true, le-leb, lt-leb}
+use borrow.Author.Tests.{eqb-true, eq-eqb, leb-true, le-leb}
 use Rattle.gsd_format.specs.Opening.{verdict}
 use Rattle.gsd_format.proofs.Refusals.{both-true, both-of}
 use Rattle.gsd_stores.specs.Sheet.{Row, rowsOf}
-use Rattle.gsd_stores.specs.Stores.{Store, after}
+use Rattle.gsd_stores.specs.Stores.{after}
 use Rattle.gsd_stores.specs.Append.{appendTest, storesFor, appended}
-use Rattle.gsd_stores.specs.Runs.{Bytes, Call, Moment, start, during, later, Begins, first, next, afterCall, afterRun, frames, lastStoreMade, completed}
+use Rattle.gsd_stores.specs.Runs.{Bytes, Call, Moment, start, during, later, afterCall, afterRun, frames, lastStoreMade, completed}
 use Rattle.gsd_stores.specs.Demand3.{Complete, Demand3}
 use Rattle.gsd_stores.proofs.Keep.{Keep, keep-refl, keep-trans, absent-kept, complete-kept}
 
