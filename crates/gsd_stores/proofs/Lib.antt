@@ -6,4 +6,5 @@ pub mod Keep
 pub mod Runs
 pub mod View
 pub mod Good
+pub mod Shown
 pub mod Table
