@@ -1,2 +1,4 @@
 -- The theorems about appends and what leads to them.
 pub mod Table
+pub mod Sheet
+pub mod Plan

@@ -1,0 +1,195 @@
+-- Laws of the plan of an append: growth of a block, the end of use, the data, the new names, the new entries and their order.
+use Prim.Native.Nat.{ℕ, zero, suc, _+_, _*_, _-_, _/_, _%_, _≤_, _<_, max}
+use mathlib.Core.Path.{_≡_, refl, sym, _∙_, ap}
+use mathlib.Core.Bool.{Bool, true, false}
+use mathlib.Core.List.{List, [], _∷_, _++_}
+use native.Mathlib.Nat.{add-zero, add-assoc}
+use native.Mathlib.Decide.{ℕ-discrete, decLt, decLe}
+use native.Mathlib.Omega.{arith}
+use lib.ListN.{length, getD, take, drop, replicate, length-append, length-replicate, List·getD-append}
+use lib.Seq.{getD-append-add}
+use lib.Dec.{ltb, leb}
+use borrow.Author.Tests.{le-leb, lt-leb}
+use Rattle.gsd_format.specs.declared.Entry.{Entry}
+use Rattle.gsd_format.specs.declared.Layout.{Layout}
+use Rattle.gsd_format.specs.Bytes.{part, zeros, roundUp}
+use Rattle.gsd_format.specs.Types.{chunkSize}
+use Rattle.gsd_format.specs.Names.{indexOf}
+use Rattle.gsd_format.specs.Lookup.{none}
+use Rattle.gsd_format.proofs.Bytes.{Text}
+use Rattle.gsd_stores.specs.Sheet.{Row}
+use Rattle.gsd_stores.specs.View.{View, indexEnd, namelistEnd, chunksEnd, endOfUse}
+use Rattle.gsd_stores.specs.Plan.{padded, bodies, newEntries, inserted, sorted, doubled, grown}
+use Rattle.gsd_stores.specs.Demand3.{noRow}
+
+-- Growth of a block
+
+pub doubled-done : (fuel need c : ℕ) → need ≤ c → doubled fuel need c ≡ c
+unfolding doubled
+doubled-done zero need c h = refl
+doubled-done (suc fuel) need c h = rw (le-leb need c h, doubled)
+
+pub doubled-on : (fuel need c : ℕ) → c < need → doubled (suc fuel) need c ≡ doubled fuel need (2 * c)
+unfolding doubled
+doubled-on fuel need c h = rw (lt-leb need c h, doubled)
+
+-- enough fuel: each doubling of a count of at least 1 adds at least 1 to it
+pub doubled-enough : (fuel need c : ℕ) → 1 ≤ c → need ≤ c + fuel → need ≤ doubled fuel need c
+doubled-enough zero need c one h = rw (doubled-done zero need c (omega arith)) (omega arith)
+doubled-enough (suc fuel) need c one h = go (doubled-enough fuel need (2 * c)) (decLe need c)
+  where
+    go : (1 ≤ 2 * c → need ≤ 2 * c + fuel → need ≤ doubled fuel need (2 * c)) → Dec (need ≤ c) → need ≤ doubled (suc fuel) need c
+    go f (yes l) = rw (doubled-done (suc fuel) need c l) l
+    go f (no l) = rw (doubled-on fuel need c (omega arith)) (f (omega arith) (omega arith))
+
+pub doubled-more : (fuel need c : ℕ) → c ≤ doubled fuel need c
+unfolding doubled
+doubled-more zero need c = omega arith
+doubled-more (suc fuel) need c = go (doubled-more fuel need (2 * c)) (decLe need c)
+  where
+    go : 2 * c ≤ doubled fuel need (2 * c) → Dec (need ≤ c) → c ≤ doubled (suc fuel) need c
+    go f (yes l) = rw (doubled-done (suc fuel) need c l) (omega arith)
+    go f (no l) = rw (doubled-on fuel need c (omega arith)) (omega arith)
+
+-- never more than twice what is needed
+pub doubled-most : (fuel need c : ℕ) → doubled fuel need c ≤ max c (2 * need)
+unfolding doubled
+doubled-most zero need c = omega arith
+doubled-most (suc fuel) need c = go (doubled-most fuel need (2 * c)) (decLe need c)
+  where
+    go : doubled fuel need (2 * c) ≤ max (2 * c) (2 * need) → Dec (need ≤ c) → doubled (suc fuel) need c ≤ max c (2 * need)
+    go f (yes l) = rw (doubled-done (suc fuel) need c l) (omega arith)
+    go f (no l) = rw (doubled-on fuel need c (omega arith)) (omega arith)
+
+-- any fuel that is enough gives the same
+pub doubled-fuel : (f g need c : ℕ) → 1 ≤ c → need ≤ c + f → need ≤ c + g → doubled f need c ≡ doubled g need c
+doubled-fuel zero g need c one h k = doubled-done zero need c (omega arith) ∙ sym (doubled-done g need c (omega arith))
+doubled-fuel (suc f) zero need c one h k = doubled-done (suc f) need c (omega arith) ∙ sym (doubled-done zero need c (omega arith))
+doubled-fuel (suc f) (suc g) need c one h k = go (doubled-fuel f g need (2 * c)) (decLe need c)
+  where
+    go : (1 ≤ 2 * c → need ≤ 2 * c + f → need ≤ 2 * c + g → doubled f need (2 * c) ≡ doubled g need (2 * c)) → Dec (need ≤ c) → doubled (suc f) need c ≡ doubled (suc g) need c
+    go r (yes l) = doubled-done (suc f) need c l ∙ sym (doubled-done (suc g) need c l)
+    go r (no l) = doubled-on f need c (omega arith) ∙ r (omega arith) (omega arith) (omega arith) ∙ sym (doubled-on g need c (omega arith))
+
+pub grown-enough : (need old : ℕ) → need ≤ grown need old
+grown-enough need old = doubled-enough need need (2 * max 1 old) (omega arith) (omega arith)
+
+pub grown-more : (need old : ℕ) → 2 * max 1 old ≤ grown need old
+grown-more need old = doubled-more need need (2 * max 1 old)
+
+-- The end of use
+
+pub chunk-end : (es : List Entry) (i : ℕ) → i < length es → getD es i none .location + chunkSize (getD es i none) ≤ chunksEnd es
+unfolding chunksEnd
+chunk-end [] i l = absurd (omega arith)
+chunk-end (e ∷ es) zero l = omega arith
+chunk-end (e ∷ es) (suc i) l = omega (arith, chunk-end es i (omega arith))
+
+pub record EndOfUse (v : View) (p : ℕ) : Type 0 where
+  pub even : p % 8 ≡ 0
+  pub header : 256 ≤ p
+  pub index : indexEnd (v .layout) ≤ p
+  pub names : namelistEnd (v .layout) ≤ p
+  pub chunks : (i : ℕ) → i < length (v .entries) → getD (v .entries) i none .location + chunkSize (getD (v .entries) i none) ≤ p
+  pub least : p < max 256 (max (indexEnd (v .layout)) (max (namelistEnd (v .layout)) (chunksEnd (v .entries)))) + 8
+
+pub end-of-use : (v : View) → EndOfUse v (endOfUse v)
+unfolding endOfUse
+end-of-use v = record {
+  even = omega arith;
+  header = omega arith;
+  index = omega arith;
+  names = omega arith;
+  chunks = λ i l. omega (arith, chunk-end (v .entries) i l);
+  least = omega arith;
+}
+
+-- The data
+
+pub padded-length : (b : List ℕ) → length (padded b) ≡ roundUp 8 (length b)
+padded-length b = simp (length-append, length-replicate) (omega arith)
+
+pub bodies-length : (r : Row) (rs : List Row) → length (bodies (r ∷ rs)) ≡ roundUp 8 (length (r .body)) + length (bodies rs)
+unfolding bodies
+bodies-length r rs = omega (arith, length-append (padded (r .body)) (bodies rs), padded-length (r .body))
+
+pub bodies-even : (rs : List Row) → length (bodies rs) % 8 ≡ 0
+unfolding bodies
+bodies-even [] = refl
+bodies-even (r ∷ rs) = omega (arith, bodies-length r rs, bodies-even rs)
+
+-- where the i-th row's data lie among all data
+abbrev pub bodyOffset : List Row → ℕ → ℕ
+bodyOffset rs i = length (bodies (take i rs))
+
+pub offset-none : (rs : List Row) → bodyOffset rs 0 ≡ 0
+unfolding bodies
+offset-none rs = refl
+
+pub offset-next : (rs : List Row) (i : ℕ) → i < length rs → bodyOffset rs (suc i) ≡ bodyOffset rs i + roundUp 8 (length (getD rs i noRow .body))
+offset-next [] i l = absurd (omega arith)
+offset-next (r ∷ rs) zero l = omega (arith, bodies-length r [], offset-none rs)
+offset-next (r ∷ rs) (suc i) l = omega (arith, bodies-length r (take i rs), bodies-length r (take (suc i) rs), offset-next rs i (omega arith))
+
+pub offset-even : (rs : List Row) (i : ℕ) → bodyOffset rs i % 8 ≡ 0
+offset-even rs i = bodies-even (take i rs)
+
+-- the i-th row's data end among all data
+pub offset-within : (rs : List Row) (i : ℕ) → i < length rs → bodyOffset rs i + roundUp 8 (length (getD rs i noRow .body)) ≤ length (bodies rs)
+offset-within [] i l = absurd (omega arith)
+offset-within (r ∷ rs) zero l = omega (arith, bodies-length r rs, offset-none rs)
+offset-within (r ∷ rs) (suc i) l = omega (arith, bodies-length r (take i rs), bodies-length r rs, offset-within rs i (omega arith))
+
+pub bodies-text : (rs : List Row) (i : ℕ) → i < length rs → Text (bodies rs) (bodyOffset rs i) (padded (getD rs i noRow .body))
+unfolding bodies
+bodies-text [] i l k m = absurd (omega arith)
+bodies-text (r ∷ rs) zero l k m = ap (λ j. getD (bodies (r ∷ rs)) j 0) (let e : bodyOffset (r ∷ rs) 0 + k ≡ k = omega arith in e) ∙ List·getD-append (padded (r .body)) (bodies rs) 0 k m
+bodies-text (r ∷ rs) (suc i) l k m =
+    ap (λ j. getD (bodies (r ∷ rs)) j 0)
+    (let e : bodyOffset (r ∷ rs) (suc i) + k ≡ length (padded (r .body)) + (bodyOffset rs i + k) = omega (arith, length-append (padded (r .body)) (bodies (take i rs))) in e)
+    ∙ getD-append-add (padded (r .body)) (bodies rs) (bodyOffset rs i + k) 0
+    ∙ bodies-text rs i (omega arith) k m
+
+-- The new entries
+
+-- a row's entry, its data at pos
+abbrev pub newEntry : ℕ → ℕ → List (List ℕ) → Row → Entry
+newEntry pos frame names r = record { frame = frame; n = r .n; location = pos; m = r .m; id = indexOf (r .name) names; kind = r .kind; flags = 0 }
+
+pub new-length : (rs : List Row) (pos frame : ℕ) (names : List (List ℕ)) → length (newEntries pos frame names rs) ≡ length rs
+unfolding newEntries
+new-length [] pos frame names = refl
+new-length (r ∷ rs) pos frame names = ap suc (new-length rs (pos + length (padded (r .body))) frame names)
+
+pub new-at : (rs : List Row) (pos frame : ℕ) (names : List (List ℕ)) (i : ℕ) → i < length rs →
+    getD (newEntries pos frame names rs) i none ≡ newEntry (pos + bodyOffset rs i) frame names (getD rs i noRow)
+unfolding newEntries
+new-at [] pos frame names i l = absurd (omega arith)
+new-at (r ∷ rs) pos frame names zero l = ap (λ p. newEntry p frame names r) (omega (arith, offset-none (r ∷ rs)))
+new-at (r ∷ rs) pos frame names (suc i) l =
+    new-at rs (pos + length (padded (r .body))) frame names i (omega arith)
+    ∙ ap (λ p. newEntry p frame names (getD rs i noRow)) (omega (arith, bodies-length r (take i rs), padded-length (r .body)))
+
+-- Sorted by id
+
+pub insert-here : (e x : Entry) (xs : List Entry) → e .id ≤ x .id → inserted e (x ∷ xs) ≡ e ∷ x ∷ xs
+unfolding inserted
+insert-here e x xs h = rw (le-leb (e .id) (x .id) h, inserted)
+
+pub insert-on : (e x : Entry) (xs : List Entry) → x .id < e .id → inserted e (x ∷ xs) ≡ x ∷ inserted e xs
+unfolding inserted
+insert-on e x xs h = rw (lt-leb (e .id) (x .id) h, inserted)
+
+pub insert-length : (e : Entry) (xs : List Entry) → length (inserted e xs) ≡ suc (length xs)
+unfolding inserted
+insert-length e [] = refl
+insert-length e (x ∷ xs) = go (insert-length e xs) (decLe (e .id) (x .id))
+  where
+    go : length (inserted e xs) ≡ suc (length xs) → Dec (e .id ≤ x .id) → length (inserted e (x ∷ xs)) ≡ suc (suc (length xs))
+    go f (yes l) = rw (insert-here e x xs l)
+    go f (no l) = rw (insert-on e x xs (omega arith)) (ap suc f)
+
+pub sorted-length : (es : List Entry) → length (sorted es) ≡ length es
+unfolding sorted
+sorted-length [] = refl
+sorted-length (e ∷ es) = insert-length e (sorted es) ∙ ap suc (sorted-length es)

@@ -1,0 +1,182 @@
+-- Laws of the append sheet: when it is accepted, where each row's name and data lie in it, and what then holds of every row.
+use Prim.Native.Nat.{ℕ, zero, suc, _+_, _*_, _≤_, _<_}
+use mathlib.Core.Path.{_≡_, refl, sym, _∙_, ap}
+use mathlib.Core.Bool.{Bool, true, false, not, true≢false, _||_}
+use mathlib.Core.List.{List, [], _∷_, map}
+use native.Mathlib.Nat.{add-zero, add-assoc}
+use native.Mathlib.Decide.{ℕ-discrete, decLt}
+use native.Mathlib.Omega.{arith}
+use lib.ListN.{length, getD}
+use lib.Dec.{ltb, eqb}
+use borrow.Author.Tests.{ltb-true, ltb-false, eqb-true, eqb-false, eq-eqb, ne-eqb, lt-ltb, le-ltb, not-true, not-false}
+use Rattle.gsd_format.specs.Bytes.{le, part, zeroIn}
+use Rattle.gsd_format.specs.Types.{sizeOf, known}
+use Rattle.gsd_format.specs.Refusals.{_⇒_, _▹_}
+use Rattle.gsd_format.specs.Opening.{twins}
+use Rattle.gsd_format.proofs.Refusals.{both, none-of, unmet, passed, neither, neither-of, not-of, not-less, less-no, no-differ, differ-no}
+use Rattle.gsd_format.proofs.Bytes.{Octets, Text, le-bound, part-length, part-at, no-zero, zero-out}
+use Rattle.gsd_stores.specs.Sheet.{Row, rowKind, nameSize, bodySize, badRow, badTable, bodiesEnd, rowsAt, rowCount, tableEnd, rowsOf, rowNames, anyZero, mostRows, sheetTest}
+use Rattle.gsd_stores.specs.Demand3.{noRow}
+
+-- Places in the sheet
+
+-- the i-th row of the table
+abbrev pub rowPlace : ℕ → ℕ → ℕ
+rowPlace t i = t + 16 * i
+
+-- where the i-th name begins, if the table begins at t and the first name at q
+unfoldable pub startAt : List ℕ → ℕ → ℕ → ℕ → ℕ
+startAt s t q zero = q
+startAt s t q (suc i) = startAt s t q i + nameSize s (rowPlace t i) + bodySize s (rowPlace t i)
+
+start-more : (s : List ℕ) (t q i : ℕ) → startAt s t q (suc i) ≡ startAt s t q i + nameSize s (rowPlace t i) + bodySize s (rowPlace t i)
+unfolding startAt
+start-more s t q i = refl
+
+start-next : (s : List ℕ) (t q i : ℕ) → startAt s (t + 16) (q + nameSize s t + bodySize s t) i ≡ startAt s t q (suc i)
+unfolding startAt
+start-next s t q zero = ap (λ k. q + nameSize s k + bodySize s k) (let e : t ≡ rowPlace t 0 = omega arith in e)
+start-next s t q (suc i) =
+    let f : startAt s (t + 16) (q + nameSize s t + bodySize s t) i ≡ startAt s t q (suc i) = start-next s t q i in
+    let e : rowPlace (t + 16) i ≡ rowPlace t (suc i) = omega arith in
+    λ j. f j + nameSize s (e j) + bodySize s (e j)
+
+-- the bodies end where one more name would begin
+pub bodies-end : (n : ℕ) (s : List ℕ) (t q : ℕ) → bodiesEnd s t q n ≡ startAt s t q n
+unfolding bodiesEnd startAt
+bodies-end zero s t q = refl
+bodies-end (suc n) s t q = bodies-end n s (t + 16) (q + nameSize s t + bodySize s t) ∙ start-next s t q n
+
+start-rises : (j : ℕ) (s : List ℕ) (t q i : ℕ) → i ≤ j → startAt s t q i ≤ startAt s t q j
+start-rises zero s t q i l = let e : i ≡ 0 = omega arith in rw e (omega arith)
+start-rises (suc j) s t q i l = go (start-rises j s t q i) (ℕ-discrete i (suc j))
+  where
+    go : (i ≤ j → startAt s t q i ≤ startAt s t q j) → Dec (i ≡ suc j) → startAt s t q i ≤ startAt s t q (suc j)
+    go f (yes e) = rw e (omega arith)
+    go f (no e) = omega (arith, f (omega arith), start-more s t q j)
+
+-- the row of the table at t whose name begins at q
+abbrev pub rowFrom : List ℕ → ℕ → ℕ → Row
+rowFrom s t q = record { name = part s q (nameSize s t); n = le 8 s t; m = le 4 s (t + 8); kind = rowKind s t; body = part s (q + nameSize s t) (bodySize s t) }
+
+pub rows-length : (n : ℕ) (s : List ℕ) (t q : ℕ) → length (rowsAt s t q n) ≡ n
+unfolding rowsAt
+rows-length zero s t q = refl
+rows-length (suc n) s t q = ap suc (rows-length n s (t + 16) (q + nameSize s t + bodySize s t))
+
+pub rows-at : (n : ℕ) (s : List ℕ) (t q i : ℕ) → i < n → getD (rowsAt s t q n) i noRow ≡ rowFrom s (rowPlace t i) (startAt s t q i)
+unfolding rowsAt startAt
+rows-at zero s t q i l = absurd (omega arith)
+rows-at (suc n) s t q zero l = let e : t ≡ rowPlace t 0 = omega arith in ap (λ k. rowFrom s k q) e
+rows-at (suc n) s t q (suc i) l =
+    rows-at n s (t + 16) (q + nameSize s t + bodySize s t) i (omega arith)
+    ∙ (let e : rowPlace (t + 16) i ≡ rowPlace t (suc i) = omega arith in
+    let f : startAt s (t + 16) (q + nameSize s t + bodySize s t) i ≡ startAt s t q (suc i) = start-next s t q i in
+    λ j. rowFrom s (e j) (f j))
+
+-- When a sheet is accepted
+
+pub record GoodRow (s : List ℕ) (t : ℕ) : Type 0 where
+  pub known : 0 < sizeOf (rowKind s t)
+  pub named : 0 < nameSize s t
+  pub zeros : le 2 s (t + 14) ≡ 0
+
+good-row : (s : List ℕ) (t : ℕ) → badRow s t ≡ false → GoodRow s t
+good-row s t h =
+    let parts : (((not (known (rowKind s t)) || eqb (nameSize s t) 0) ≡ false) × (not (eqb (le 2 s (t + 14)) 0) ≡ false)) = neither _ _ h in
+    let first : ((not (known (rowKind s t)) ≡ false) × (eqb (nameSize s t) 0 ≡ false)) = neither _ _ (parts .0) in
+    let some : (nameSize s t ≡ 0 → ⊥) = eqb-false _ _ (first .1) in
+    record { known = ltb-true _ _ (not-false _ (first .0)); named = omega arith; zeros = eqb-true _ _ (not-false _ (parts .1)) }
+
+row-good : (s : List ℕ) (t : ℕ) → GoodRow s t → badRow s t ≡ false
+row-good s t h =
+    neither-of (not (known (rowKind s t)) || eqb (nameSize s t) 0) _
+    (neither-of (not (known (rowKind s t))) _ (not-of _ (lt-ltb _ _ (h .known))) (ne-eqb (nameSize s t) 0 (λ e. omega arith))) (not-of _ (eq-eqb _ _ (h .zeros)))
+
+good-table : (n : ℕ) (s : List ℕ) (t : ℕ) → badTable s t n ≡ false → (i : ℕ) → i < n → GoodRow s (rowPlace t i)
+unfolding badTable
+good-table zero s t h i l = absurd (omega arith)
+good-table (suc n) s t h zero l = let e : t ≡ rowPlace t 0 = omega arith in rw e at (good-row s t (neither (badRow s t) _ h .0))
+good-table (suc n) s t h (suc i) l =
+    let e : rowPlace (t + 16) i ≡ rowPlace t (suc i) = omega arith in rw e at (good-table n s (t + 16) (neither (badRow s t) _ h .1) i (omega arith))
+
+table-good : (n : ℕ) (s : List ℕ) (t : ℕ) → ((i : ℕ) → i < n → GoodRow s (rowPlace t i)) → badTable s t n ≡ false
+unfolding badTable
+table-good zero s t h = refl
+table-good (suc n) s t h =
+    neither-of _ _ (row-good s t (let e : rowPlace t 0 ≡ t = omega arith in rw e at (h 0 (omega arith))))
+    (table-good n s (t + 16) (λ i l. let e : rowPlace t (suc i) ≡ rowPlace (t + 16) i = omega arith in rw e at (h (suc i) (omega arith))))
+
+-- no byte of the name is zero
+abbrev pub Full : List ℕ → Type 0
+Full b = (k : ℕ) → k < length b → getD b k 0 ≡ 0 → ⊥
+
+zero-free : (b : List ℕ) → zeroIn b 0 (length b) ≡ false → Full b
+zero-free b h k l z = no-zero b 0 (length b) h k l (ap (λ j. getD b j 0) (let e : 0 + k ≡ k = omega arith in e) ∙ z)
+
+free-zero : (b : List ℕ) → Full b → zeroIn b 0 (length b) ≡ false
+free-zero b h = zero-out b 0 (length b) (λ k l z. h k l (ap (λ j. getD b j 0) (let e : k ≡ 0 + k = omega arith in e) ∙ z))
+
+full-names : (ns : List (List ℕ)) → anyZero ns ≡ false → (i : ℕ) → i < length ns → Full (getD ns i [])
+unfolding anyZero
+full-names [] h i l = absurd (omega arith)
+full-names (b ∷ ns) h zero l = zero-free b (neither (zeroIn b 0 (length b)) _ h .0)
+full-names (b ∷ ns) h (suc i) l = full-names ns (neither (zeroIn b 0 (length b)) _ h .1) i (omega arith)
+
+names-full : (ns : List (List ℕ)) → ((i : ℕ) → i < length ns → Full (getD ns i [])) → anyZero ns ≡ false
+unfolding anyZero
+names-full [] h = refl
+names-full (b ∷ ns) h = neither-of (zeroIn b 0 (length b)) _ (free-zero b (h 0 (omega arith))) (names-full ns (λ i l. h (suc i) (omega arith)))
+
+-- where the i-th row of a sheet, its name and its data begin
+abbrev pub rowAt : ℕ → ℕ
+rowAt i = rowPlace 4 i
+
+abbrev pub nameAt : List ℕ → ℕ → ℕ
+nameAt s i = startAt s 4 (tableEnd s) i
+
+abbrev pub bodyAt : List ℕ → ℕ → ℕ
+bodyAt s i = nameAt s i + nameSize s (rowAt i)
+
+pub record Accepted (s : List ℕ) : Type 0 where
+  pub long : 4 ≤ length s
+  pub some : 0 < rowCount s
+  pub few : rowCount s ≤ mostRows
+  pub table : tableEnd s ≤ length s
+  pub rows : (i : ℕ) → i < rowCount s → GoodRow s (rowAt i)
+  pub exact : length s ≡ nameAt s (rowCount s)
+  pub full : (i : ℕ) → i < length (rowNames (rowsOf s)) → Full (getD (rowNames (rowsOf s)) i [])
+  pub distinct : twins (rowNames (rowsOf s)) ≡ false
+
+pub accepted : (s : List ℕ) → sheetTest s ≡ 0 → Accepted s
+unfolding sheetTest
+accepted s h =
+    let from22 = both _ _ h in
+    let from23 = both _ _ (from22 .1) in
+    let from24 = both _ _ (from23 .1) in
+    let from25 = both _ _ (from24 .1) in
+    let from26 = both _ _ (from25 .1) in
+    let count : (((ltb (length s) 4 || eqb (rowCount s) 0) ≡ false) × (ltb mostRows (rowCount s) ≡ false)) = neither _ _ (unmet _ _ (from22 .0)) in
+    let low : ((ltb (length s) 4 ≡ false) × (eqb (rowCount s) 0 ≡ false)) = neither _ _ (count .0) in
+    let some : (rowCount s ≡ 0 → ⊥) = eqb-false _ _ (low .1) in
+    record {
+      long = ltb-false _ _ (low .0);
+      some = omega arith;
+      few = ltb-false _ _ (count .1);
+      table = not-less _ _ _ (from23 .0);
+      rows = good-table (rowCount s) s 4 (unmet _ _ (from24 .0));
+      exact = no-differ _ _ _ (from25 .0) ∙ bodies-end (rowCount s) s 4 (tableEnd s);
+      full = full-names (rowNames (rowsOf s)) (unmet _ _ (from26 .0));
+      distinct = unmet _ _ (from26 .1);
+    }
+
+pub accepts : (s : List ℕ) → Accepted s → sheetTest s ≡ 0
+unfolding sheetTest
+accepts s h =
+    none-of _ _ (passed _ _ (neither-of (ltb (length s) 4 || eqb (rowCount s) 0) _
+    (neither-of (ltb (length s) 4) _ (le-ltb _ _ (h .long)) (ne-eqb (rowCount s) 0 (λ e. omega arith))) (le-ltb _ _ (h .few))))
+    (none-of _ _ (less-no _ _ _ (h .table))
+    (none-of _ _ (passed _ _ (table-good (rowCount s) s 4 (h .rows)))
+    (none-of _ _ (differ-no _ _ _ (h .exact ∙ sym (bodies-end (rowCount s) s 4 (tableEnd s))))
+    (none-of _ _ (passed _ _ (names-full (rowNames (rowsOf s)) (h .full)))
+    (passed _ _ (h .distinct))))))
