@@ -2,6 +2,7 @@
 use Prim.Native.Nat.{ℕ, zero, suc, _+_, _*_, _-_, _/_, _%_, _≤_, _<_, max}
 use mathlib.Core.Path.{_≡_, refl, sym, _∙_, ap}
 use mathlib.Core.Bool.{Bool, true, false}
+use mathlib.Core.Logic.{_⊎_, inl, inr}
 use mathlib.Core.List.{List, [], _∷_, _++_}
 use native.Mathlib.Nat.{add-zero, add-assoc}
 use native.Mathlib.Decide.{ℕ-discrete, decLt, decLe}
@@ -16,6 +17,7 @@ use Rattle.gsd_format.specs.Bytes.{part, zeros, roundUp}
 use Rattle.gsd_format.specs.Types.{chunkSize}
 use Rattle.gsd_format.specs.Names.{indexOf}
 use Rattle.gsd_format.specs.Lookup.{none}
+use Rattle.gsd_format.proofs.Lists.{Each, Any}
 use Rattle.gsd_format.proofs.Bytes.{Text}
 use Rattle.gsd_stores.specs.Sheet.{Row}
 use Rattle.gsd_stores.specs.View.{View, indexEnd, namelistEnd, chunksEnd, endOfUse}
@@ -193,3 +195,75 @@ pub sorted-length : (es : List Entry) → length (sorted es) ≡ length es
 unfolding sorted
 sorted-length [] = refl
 sorted-length (e ∷ es) = insert-length e (sorted es) ∙ ap suc (sorted-length es)
+
+-- what holds of each entry, or of one, holds so of the sorted ones, and the other way round
+module _ (P : Entry → Type 0) where
+  insert-each : (e : Entry) (xs : List Entry) → P e → Each P xs → Each P (inserted e xs)
+  unfolding inserted
+  insert-each e [] p h = (p, tt)
+  insert-each e (x ∷ xs) p h = go (insert-each e xs p (h .1)) (decLe (e .id) (x .id))
+    where
+      go : Each P (inserted e xs) → Dec (e .id ≤ x .id) → Each P (inserted e (x ∷ xs))
+      go f (yes l) = rw (insert-here e x xs l) (p, h)
+      go f (no l) = rw (insert-on e x xs (omega arith)) (h .0, f)
+
+  each-insert : (e : Entry) (xs : List Entry) → Each P (inserted e xs) → P e × Each P xs
+  unfolding inserted
+  each-insert e [] h = h
+  each-insert e (x ∷ xs) h = go (each-insert e xs) (decLe (e .id) (x .id))
+    where
+      go : (Each P (inserted e xs) → P e × Each P xs) → Dec (e .id ≤ x .id) → P e × Each P (x ∷ xs)
+      go f (yes l) = rw (insert-here e x xs l) at h
+      go f (no l) = let g : Each P (x ∷ inserted e xs) = rw (insert-on e x xs (omega arith)) at h in (f (g .1) .0, (g .0, f (g .1) .1))
+
+  pub sorted-each : (es : List Entry) → Each P es → Each P (sorted es)
+  unfolding sorted
+  sorted-each [] h = tt
+  sorted-each (e ∷ es) h = insert-each e (sorted es) (h .0) (sorted-each es (h .1))
+
+  pub each-sorted : (es : List Entry) → Each P (sorted es) → Each P es
+  unfolding sorted
+  each-sorted [] h = tt
+  each-sorted (e ∷ es) h = let r = each-insert e (sorted es) h in (r .0, each-sorted es (r .1))
+
+  insert-any : (e : Entry) (xs : List Entry) → P e ⊎ Any P xs → Any P (inserted e xs)
+  unfolding inserted
+  insert-any e [] h = h
+  insert-any e (x ∷ xs) h = go (insert-any e xs) h (decLe (e .id) (x .id))
+    where
+      go : (P e ⊎ Any P xs → Any P (inserted e xs)) → P e ⊎ Any P (x ∷ xs) → Dec (e .id ≤ x .id) → Any P (inserted e (x ∷ xs))
+      go f g (yes l) = rw (insert-here e x xs l) g
+      go f (inl p) (no l) = rw (insert-on e x xs (omega arith)) (inr (f (inl p)))
+      go f (inr (inl p)) (no l) = rw (insert-on e x xs (omega arith)) (inl p)
+      go f (inr (inr g)) (no l) = rw (insert-on e x xs (omega arith)) (inr (f (inr g)))
+
+  pub sorted-any : (es : List Entry) → Any P es → Any P (sorted es)
+  unfolding sorted
+  sorted-any [] h = h
+  sorted-any (e ∷ es) (inl p) = insert-any e (sorted es) (inl p)
+  sorted-any (e ∷ es) (inr h) = insert-any e (sorted es) (inr (sorted-any es h))
+
+-- ids rise strictly, from least on
+unfoldable pub Rising : ℕ → List Entry → Type 0
+Rising least [] = Unit
+Rising least (e ∷ es) = (least ≤ e .id) × Rising (e .id + 1) es
+
+-- no two entries have the same id
+unfoldable pub Differing : List Entry → Type 0
+Differing [] = Unit
+Differing (e ∷ es) = Each (λ x. e .id ≡ x .id → ⊥) es × Differing es
+
+insert-rising : (e : Entry) (xs : List Entry) (least : ℕ) → least ≤ e .id → Each (λ x. e .id ≡ x .id → ⊥) xs → Rising least xs → Rising least (inserted e xs)
+unfolding inserted Rising
+insert-rising e [] least l d h = (l, tt)
+insert-rising e (x ∷ xs) least l d h = go (insert-rising e xs (x .id + 1)) (decLe (e .id) (x .id)) (d .0)
+  where
+    go : (x .id + 1 ≤ e .id → Each (λ x. e .id ≡ x .id → ⊥) xs → Rising (x .id + 1) xs → Rising (x .id + 1) (inserted e xs)) → Dec (e .id ≤ x .id) → (e .id ≡ x .id → ⊥) →
+        Rising least (inserted e (x ∷ xs))
+    go f (yes m) n = rw (insert-here e x xs m) (l, (omega arith, h .1))
+    go f (no m) n = rw (insert-on e x xs (omega arith)) (h .0, f (omega arith) (d .1) (h .1))
+
+pub sorted-rising : (es : List Entry) → Differing es → Rising 0 (sorted es)
+unfolding sorted Rising Differing
+sorted-rising [] h = tt
+sorted-rising (e ∷ es) h = insert-rising e (sorted es) 0 (omega arith) (sorted-each (λ x. e .id ≡ x .id → ⊥) es (h .0)) (sorted-rising es (h .1))
