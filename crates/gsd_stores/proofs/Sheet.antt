@@ -15,6 +15,7 @@ use Rattle.gsd_format.specs.Refusals.{_⇒_, _▹_}
 use Rattle.gsd_format.specs.Opening.{twins}
 use Rattle.gsd_format.proofs.Refusals.{both, none-of, unmet, passed, neither, neither-of, not-of, not-less, less-no, no-differ, differ-no}
 use Rattle.gsd_format.proofs.Bytes.{Octets, Text, le-bound, part-length, part-at, no-zero, zero-out}
+use Rattle.gsd_format.proofs.Texts.{part-text}
 use Rattle.gsd_stores.specs.Sheet.{Row, rowKind, nameSize, bodySize, badRow, badTable, bodiesEnd, rowsAt, rowCount, tableEnd, rowsOf, rowNames, anyZero, mostRows, sheetTest}
 use Rattle.gsd_stores.specs.Demand3.{noRow}
 
@@ -180,3 +181,42 @@ accepts s h =
     (none-of _ _ (differ-no _ _ _ (h .exact ∙ sym (bodies-end (rowCount s) s 4 (tableEnd s))))
     (none-of _ _ (passed _ _ (names-full (rowNames (rowsOf s)) (h .full)))
     (passed _ _ (h .distinct))))))
+
+-- The rows of an accepted sheet
+
+pub rows-count : (s : List ℕ) → length (rowsOf s) ≡ rowCount s
+unfolding rowsOf
+rows-count s = rows-length (rowCount s) s 4 (tableEnd s)
+
+pub row-at : (s : List ℕ) (i : ℕ) → i < rowCount s → getD (rowsOf s) i noRow ≡ rowFrom s (rowAt i) (nameAt s i)
+unfolding rowsOf
+row-at s i l = rows-at (rowCount s) s 4 (tableEnd s) i l
+
+module _ (s : List ℕ) (ok : Accepted s) (i : ℕ) (l : i < rowCount s) where
+  -- the table's row, the name and the data lie in the sheet
+  pub row-inside : rowAt i + 16 ≤ tableEnd s
+  row-inside = omega arith
+
+  pub body-inside : bodyAt s i + bodySize s (rowAt i) ≤ length s
+  body-inside = omega (arith, ok .exact, start-rises (rowCount s) s 4 (tableEnd s) (suc i) (omega arith), start-more s 4 (tableEnd s) i)
+
+  pub table-before : tableEnd s ≤ nameAt s i
+  unfolding startAt
+  table-before = start-rises i s 4 (tableEnd s) 0 (omega arith)
+
+  pub name-length : length (getD (rowsOf s) i noRow .name) ≡ nameSize s (rowAt i)
+  name-length = rw (row-at s i l) (part-length s (nameAt s i) (nameSize s (rowAt i)) (omega (arith, body-inside)))
+
+  pub body-length : length (getD (rowsOf s) i noRow .body) ≡ bodySize s (rowAt i)
+  body-length = rw (row-at s i l) (part-length s (bodyAt s i) (bodySize s (rowAt i)) body-inside)
+
+  pub name-text : Text s (nameAt s i) (getD (rowsOf s) i noRow .name)
+  name-text = rw (row-at s i l) (part-text s (nameAt s i) (nameSize s (rowAt i)) (omega (arith, body-inside)))
+
+  pub body-text : Text s (bodyAt s i) (getD (rowsOf s) i noRow .body)
+  body-text = rw (row-at s i l) (part-text s (bodyAt s i) (bodySize s (rowAt i)) body-inside)
+
+  -- the size of the data, in whole numbers: no product wraps
+  pub body-size : length (getD (rowsOf s) i noRow .body) ≡ getD (rowsOf s) i noRow .n * getD (rowsOf s) i noRow .m * sizeOf (getD (rowsOf s) i noRow .kind)
+  unfolding bodySize
+  body-size = body-length ∙ rw (row-at s i l)
