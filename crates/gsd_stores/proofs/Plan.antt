@@ -10,18 +10,19 @@ use native.Mathlib.Omega.{arith}
 use lib.ListN.{length, getD, take, drop, replicate, length-append, length-replicate, List·getD-append}
 use lib.Seq.{getD-append-add}
 use lib.Dec.{ltb, leb}
-use borrow.Author.Tests.{le-leb, lt-leb}
+use borrow.Author.Tests.{le-leb, lt-leb, lt-ltb, le-ltb}
 use Rattle.gsd_format.specs.declared.Entry.{Entry}
 use Rattle.gsd_format.specs.declared.Layout.{Layout}
 use Rattle.gsd_format.specs.Bytes.{part, zeros, roundUp}
 use Rattle.gsd_format.specs.Types.{chunkSize}
 use Rattle.gsd_format.specs.Names.{indexOf}
 use Rattle.gsd_format.specs.Lookup.{none}
-use Rattle.gsd_format.proofs.Lists.{Each, Any}
+use Rattle.gsd_format.proofs.Lists.{Each, Any, at-each, at-any, map-each, each-map, each-at}
+use Rattle.gsd_stores.proofs.Tmp.{Named, Has, Lacks, Distinct, index-append, index-behind, index-is, distinct-append, has-here, has-there, lacks-each, each-lacks}
 use Rattle.gsd_format.proofs.Bytes.{Text}
-use Rattle.gsd_stores.specs.Sheet.{Row}
+use Rattle.gsd_stores.specs.Sheet.{Row, rowNames}
 use Rattle.gsd_stores.specs.View.{View, indexEnd, namelistEnd, chunksEnd, endOfUse}
-use Rattle.gsd_stores.specs.Plan.{padded, bodies, newEntries, inserted, sorted, doubled, grown}
+use Rattle.gsd_stores.specs.Plan.{padded, bodies, newNames, newEntries, inserted, sorted, doubled, grown}
 use Rattle.gsd_stores.specs.Demand3.{noRow}
 
 -- Growth of a block
@@ -152,6 +153,81 @@ bodies-text (r ∷ rs) (suc i) l k m =
     ∙ getD-append-add (padded (r .body)) (bodies rs) (bodyOffset rs i + k) 0
     ∙ bodies-text rs i (omega arith) k m
 
+-- The new names
+
+pub new-listed : (names : List (List ℕ)) (r : Row) (rs : List Row) → Has (r .name) names → newNames names (r ∷ rs) ≡ newNames names rs
+unfolding newNames
+new-listed names r rs h = rw (lt-ltb _ _ h, newNames)
+
+pub new-unlisted : (names : List (List ℕ)) (r : Row) (rs : List Row) → Lacks (r .name) names → newNames names (r ∷ rs) ≡ r .name ∷ newNames names rs
+unfolding newNames
+new-unlisted names r rs h = rw (le-ltb _ _ h, newNames)
+
+pub new-few : (names : List (List ℕ)) (rs : List Row) → length (newNames names rs) ≤ length rs
+unfolding newNames
+new-few names [] = omega arith
+new-few names (r ∷ rs) = go (new-few names rs) (decLt (indexOf (r .name) names) (length names))
+  where
+    go : length (newNames names rs) ≤ length rs → Dec (Has (r .name) names) → length (newNames names (r ∷ rs)) ≤ suc (length rs)
+    go f (yes h) = rw (new-listed names r rs h) (omega arith)
+    go f (no h) = rw (new-unlisted names r rs (omega arith)) (omega arith)
+
+-- none is listed
+pub new-lack : (names : List (List ℕ)) (rs : List Row) → Each (λ b. Lacks b names) (newNames names rs)
+unfolding newNames
+new-lack names [] = tt
+new-lack names (r ∷ rs) = go (new-lack names rs) (decLt (indexOf (r .name) names) (length names))
+  where
+    go : Each (λ b. Lacks b names) (newNames names rs) → Dec (Has (r .name) names) → Each (λ b. Lacks b names) (newNames names (r ∷ rs))
+    go f (yes h) = rw (new-listed names r rs h) f
+    go f (no h) = let g : Lacks (r .name) names = omega arith in rw (new-unlisted names r rs g) (g, f)
+
+-- each is a row's name: what holds of all rows' names holds of the new ones
+pub new-each : (P : List ℕ → Type 0) (names : List (List ℕ)) (rs : List Row) → Each (λ r. P (r .name)) rs → Each P (newNames names rs)
+unfolding newNames
+new-each P names [] h = tt
+new-each P names (r ∷ rs) h = go (new-each P names rs (h .1)) (decLt (indexOf (r .name) names) (length names))
+  where
+    go : Each P (newNames names rs) → Dec (Has (r .name) names) → Each P (newNames names (r ∷ rs))
+    go f (yes l) = rw (new-listed names r rs l) f
+    go f (no l) = rw (new-unlisted names r rs (omega arith)) (h .0, f)
+
+pub new-row : (names : List (List ℕ)) (rs : List Row) → Each (λ b. Any (λ r. r .name ≡ b) rs) (newNames names rs)
+new-row names rs = new-each (λ b. Any (λ r. r .name ≡ b) rs) names rs (at-each _ rs noRow (λ i l. at-any _ rs noRow i l refl))
+
+-- and every row's name is listed or new
+new-has : (names : List (List ℕ)) (rs : List Row) (i : ℕ) → i < length rs → Lacks (getD rs i noRow .name) names → Has (getD rs i noRow .name) (newNames names rs)
+new-has names [] i l h = absurd (omega arith)
+new-has names (r ∷ rs) zero l h = rw (new-unlisted names r rs h) (has-here (r .name) (newNames names rs))
+new-has names (r ∷ rs) (suc i) l h = go (new-has names rs i (omega arith) h) (decLt (indexOf (r .name) names) (length names))
+  where
+    go : Has (getD rs i noRow .name) (newNames names rs) → Dec (Has (r .name) names) → Has (getD rs i noRow .name) (newNames names (r ∷ rs))
+    go f (yes h) = rw (new-listed names r rs h) f
+    go f (no h) = rw (new-unlisted names r rs (omega arith)) (has-there _ (r .name) _ f)
+
+pub new-all : (names : List (List ℕ)) (rs : List Row) (i : ℕ) → i < length rs → Has (getD rs i noRow .name) (names ++ newNames names rs)
+new-all names rs i l = go (new-has names rs i l) (decLt (indexOf (getD rs i noRow .name) names) (length names))
+  where
+    go : (Lacks (getD rs i noRow .name) names → Has (getD rs i noRow .name) (newNames names rs)) →
+        Dec (Has (getD rs i noRow .name) names) → Has (getD rs i noRow .name) (names ++ newNames names rs)
+    go f (yes h) = omega (arith, index-append _ names (newNames names rs) h, length-append names (newNames names rs))
+    go f (no h) = let g : Lacks (getD rs i noRow .name) names = omega arith in omega (arith, index-behind _ names (newNames names rs) g, f g, length-append names (newNames names rs))
+
+-- all names, old and new, differ
+new-distinct : (names : List (List ℕ)) (rs : List Row) → Distinct (rowNames rs) → Distinct (newNames names rs)
+unfolding newNames
+new-distinct names [] d = tt
+new-distinct names (r ∷ rs) d = go (new-distinct names rs (d .1)) (decLt (indexOf (r .name) names) (length names))
+  where
+    go : Distinct (newNames names rs) → Dec (Has (r .name) names) → Distinct (newNames names (r ∷ rs))
+    go f (yes h) = rw (new-listed names r rs h) f
+    go f (no h) =
+        rw (new-unlisted names r rs (omega arith))
+        (each-lacks (r .name) (newNames names rs) (new-each (λ b. r .name ≡ b → ⊥) names rs (map-each (λ b. r .name ≡ b → ⊥) (λ r. r .name) rs (lacks-each (r .name) (rowNames rs) (d .0)))), f)
+
+pub all-distinct : (names : List (List ℕ)) (rs : List Row) → Distinct names → Distinct (rowNames rs) → Distinct (names ++ newNames names rs)
+all-distinct names rs d e = distinct-append names (newNames names rs) d (new-distinct names rs e) (new-lack names rs)
+
 -- The new entries
 
 -- a row's entry, its data at pos
@@ -252,6 +328,22 @@ Rising least (e ∷ es) = (least ≤ e .id) × Rising (e .id + 1) es
 unfoldable pub Differing : List Entry → Type 0
 Differing [] = Unit
 Differing (e ∷ es) = Each (λ x. e .id ≡ x .id → ⊥) es × Differing es
+
+-- rows of different names have entries of different ids
+pub new-differing : (rs : List Row) (pos frame : ℕ) (all : List (List ℕ)) → ((i : ℕ) → i < length rs → Has (getD rs i noRow .name) all) → Distinct (rowNames rs) →
+    Differing (newEntries pos frame all rs)
+unfolding newEntries Differing
+new-differing [] pos frame all h d = tt
+new-differing (r ∷ rs) pos frame all h d =
+    (at-each _ (newEntries next frame all rs) none (λ i l. other i (rw (new-length rs next frame all) at l)), new-differing rs next frame all (λ i l. h (suc i) (omega arith)) (d .1))
+  where
+    next : ℕ
+    next = pos + length (padded (r .body))
+    other : (i : ℕ) → i < length rs → indexOf (r .name) all ≡ getD (newEntries next frame all rs) i none .id → ⊥
+    other i l e =
+        let same : indexOf (r .name) all ≡ indexOf (getD rs i noRow .name) all = rw (new-at rs next frame all i l) at e in
+        each-at _ rs noRow (map-each (λ b. r .name ≡ b → ⊥) (λ r. r .name) rs (lacks-each (r .name) (rowNames rs) (d .0))) i l
+          (sym (index-is (r .name) all (h 0 (omega arith))) ∙ ap (λ k. getD all k []) same ∙ index-is (getD rs i noRow .name) all (h (suc i) (omega arith)))
 
 insert-rising : (e : Entry) (xs : List Entry) (least : ℕ) → least ≤ e .id → Each (λ x. e .id ≡ x .id → ⊥) xs → Rising least xs → Rising least (inserted e xs)
 unfolding inserted Rising
