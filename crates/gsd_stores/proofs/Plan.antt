@@ -1,7 +1,7 @@
 -- Laws of the plan of an append: growth of a block, the end of use, the data, the new names, the new entries and their order.
 use Prim.Native.Nat.{ℕ, zero, suc, _+_, _*_, _-_, _/_, _%_, _≤_, _<_, max}
 use mathlib.Core.Path.{_≡_, refl, sym, _∙_, ap}
-use mathlib.Core.Bool.{Bool, true, false}
+use mathlib.Core.Bool.{Bool, true, false, cond}
 use mathlib.Core.Logic.{_⊎_, inl, inr}
 use mathlib.Core.List.{List, [], _∷_, _++_}
 use native.Mathlib.Nat.{add-zero, add-assoc}
@@ -18,11 +18,11 @@ use Rattle.gsd_format.specs.Types.{chunkSize}
 use Rattle.gsd_format.specs.Names.{indexOf}
 use Rattle.gsd_format.specs.Lookup.{none}
 use Rattle.gsd_format.proofs.Lists.{Each, Any, at-each, at-any, map-each, each-map, each-at}
-use Rattle.gsd_stores.proofs.Tmp.{Named, Has, Lacks, Distinct, index-append, index-behind, index-is, distinct-append, has-here, has-there, lacks-each, each-lacks}
+use Rattle.gsd_stores.proofs.Tmp.{Has, Lacks, Distinct, index-inj, has-any, any-has, has-front, has-back, lacks-each, each-lacks, distinct-append}
 use Rattle.gsd_format.proofs.Bytes.{Text}
 use Rattle.gsd_stores.specs.Sheet.{Row, rowNames}
 use Rattle.gsd_stores.specs.View.{View, indexEnd, namelistEnd, chunksEnd, endOfUse}
-use Rattle.gsd_stores.specs.Plan.{padded, bodies, newNames, newEntries, inserted, sorted, doubled, grown}
+use Rattle.gsd_stores.specs.Plan.{Plan, padded, bodies, newNames, newEntries, inserted, sorted, doubled, grown, planOf, dataEnd, namesDone, finalPosition}
 use Rattle.gsd_stores.specs.Demand3.{noRow}
 
 -- Growth of a block
@@ -198,22 +198,25 @@ new-row names rs = new-each (λ b. Any (λ r. r .name ≡ b) rs) names rs (at-ea
 -- and every row's name is listed or new
 new-has : (names : List (List ℕ)) (rs : List Row) (i : ℕ) → i < length rs → Lacks (getD rs i noRow .name) names → Has (getD rs i noRow .name) (newNames names rs)
 new-has names [] i l h = absurd (omega arith)
-new-has names (r ∷ rs) zero l h = rw (new-unlisted names r rs h) (has-here (r .name) (newNames names rs))
+new-has names (r ∷ rs) zero l h = rw (new-unlisted names r rs h) (any-has (r .name) (r .name ∷ newNames names rs) (inl refl))
 new-has names (r ∷ rs) (suc i) l h = go (new-has names rs i (omega arith) h) (decLt (indexOf (r .name) names) (length names))
   where
     go : Has (getD rs i noRow .name) (newNames names rs) → Dec (Has (r .name) names) → Has (getD rs i noRow .name) (newNames names (r ∷ rs))
     go f (yes h) = rw (new-listed names r rs h) f
-    go f (no h) = rw (new-unlisted names r rs (omega arith)) (has-there _ (r .name) _ f)
+    go f (no h) = rw (new-unlisted names r rs (omega arith)) (any-has _ (r .name ∷ newNames names rs) (inr (has-any _ (newNames names rs) f)))
 
 pub new-all : (names : List (List ℕ)) (rs : List Row) (i : ℕ) → i < length rs → Has (getD rs i noRow .name) (names ++ newNames names rs)
 new-all names rs i l = go (new-has names rs i l) (decLt (indexOf (getD rs i noRow .name) names) (length names))
   where
     go : (Lacks (getD rs i noRow .name) names → Has (getD rs i noRow .name) (newNames names rs)) →
         Dec (Has (getD rs i noRow .name) names) → Has (getD rs i noRow .name) (names ++ newNames names rs)
-    go f (yes h) = omega (arith, index-append _ names (newNames names rs) h, length-append names (newNames names rs))
-    go f (no h) = let g : Lacks (getD rs i noRow .name) names = omega arith in omega (arith, index-behind _ names (newNames names rs) g, f g, length-append names (newNames names rs))
+    go f (yes h) = has-front _ names (newNames names rs) h
+    go f (no h) = has-back _ names (newNames names rs) (f (omega arith))
 
 -- all names, old and new, differ
+others : (r : Row) (rs : List Row) → Lacks (r .name) (rowNames rs) → Each (λ q. q .name ≡ r .name → ⊥) rs
+others r rs h = map-each (λ b. b ≡ r .name → ⊥) (λ q. q .name) rs (lacks-each (r .name) (rowNames rs) h)
+
 new-distinct : (names : List (List ℕ)) (rs : List Row) → Distinct (rowNames rs) → Distinct (newNames names rs)
 unfolding newNames
 new-distinct names [] d = tt
@@ -223,7 +226,7 @@ new-distinct names (r ∷ rs) d = go (new-distinct names rs (d .1)) (decLt (inde
     go f (yes h) = rw (new-listed names r rs h) f
     go f (no h) =
         rw (new-unlisted names r rs (omega arith))
-        (each-lacks (r .name) (newNames names rs) (new-each (λ b. r .name ≡ b → ⊥) names rs (map-each (λ b. r .name ≡ b → ⊥) (λ r. r .name) rs (lacks-each (r .name) (rowNames rs) (d .0)))), f)
+        (each-lacks (r .name) (newNames names rs) (new-each (λ b. b ≡ r .name → ⊥) names rs (others r rs (d .0))), f)
 
 pub all-distinct : (names : List (List ℕ)) (rs : List Row) → Distinct names → Distinct (rowNames rs) → Distinct (names ++ newNames names rs)
 all-distinct names rs d e = distinct-append names (newNames names rs) d (new-distinct names rs e) (new-lack names rs)
@@ -342,8 +345,7 @@ new-differing (r ∷ rs) pos frame all h d =
     other : (i : ℕ) → i < length rs → indexOf (r .name) all ≡ getD (newEntries next frame all rs) i none .id → ⊥
     other i l e =
         let same : indexOf (r .name) all ≡ indexOf (getD rs i noRow .name) all = rw (new-at rs next frame all i l) at e in
-        each-at _ rs noRow (map-each (λ b. r .name ≡ b → ⊥) (λ r. r .name) rs (lacks-each (r .name) (rowNames rs) (d .0))) i l
-          (sym (index-is (r .name) all (h 0 (omega arith))) ∙ ap (λ k. getD all k []) same ∙ index-is (getD rs i noRow .name) all (h (suc i) (omega arith)))
+        each-at _ rs noRow (others r rs (d .0)) i l (sym (index-inj (r .name) (getD rs i noRow .name) all (h 0 (omega arith)) same))
 
 insert-rising : (e : Entry) (xs : List Entry) (least : ℕ) → least ≤ e .id → Each (λ x. e .id ≡ x .id → ⊥) xs → Rising least xs → Rising least (inserted e xs)
 unfolding inserted Rising
@@ -359,3 +361,32 @@ pub sorted-rising : (es : List Entry) → Differing es → Rising 0 (sorted es)
 unfolding sorted Rising Differing
 sorted-rising [] h = tt
 sorted-rising (e ∷ es) h = insert-rising e (sorted es) 0 (omega arith) (sorted-each (λ x. e .id ≡ x .id → ⊥) es (h .0)) (sorted-rising es (h .1))
+
+-- new entries of one frame, by rising ids, are in the order of keys
+pub rising-ordered : (es : List Entry) (frame least top : ℕ) → frame ≤ top → Each (λ e. e .frame ≡ frame) es → Rising least es → Ordered (65536 * frame + least) top es
+unfolding Rising
+rising-ordered [] frame least top l f h = tt
+rising-ordered (e ∷ es) frame least top l f h =
+    (omega (arith, f .0, h .0), omega (arith, f .0),
+    ?tail)
+
+-- The blocks
+
+-- the plan's positions follow one another
+pub positions : (p : Plan) → (dataEnd p ≤ namesDone p) × (namesDone p ≤ finalPosition p)
+positions p = (go (p .namesMove) (dataEnd p) (64 * p .segments), go (p .indexMoves) (namesDone p) (32 * p .slots))
+  where
+    go : (b : Bool) (a n : ℕ) → a ≤ cond b (a + n) a
+    go true a n = omega arith
+    go false a n = omega arith
+
+pub positions-even : (p : Plan) → dataEnd p % 8 ≡ 0 → (namesDone p % 8 ≡ 0) × (finalPosition p % 8 ≡ 0)
+positions-even p h = let e : namesDone p % 8 ≡ 0 = go (p .namesMove) (dataEnd p) (8 * p .segments) (64 * p .segments) (omega arith) h in (e, go (p .indexMoves) (namesDone p) (4 * p .slots) (32 * p .slots) (omega arith) e)
+  where
+    go : (b : Bool) (a n m : ℕ) → m ≡ 8 * n → a % 8 ≡ 0 → cond b (a + m) a % 8 ≡ 0
+    go true a n m e h = omega arith
+    go false a n m e h = h
+
+-- a block that moves when what it must hold is more than it holds: afterwards it holds it, and it is no smaller
+fitting : (unit need old : ℕ) → need ≤ unit * cond (ltb (unit * old) need) (grown ((need + (unit - 1)) / unit) old) old
+fitting unit need old = ?fit

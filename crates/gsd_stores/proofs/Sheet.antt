@@ -1,5 +1,5 @@
 -- Laws of the append sheet: when it is accepted, where each row's name and data lie in it, and what then holds of every row.
-use Prim.Native.Nat.{ℕ, zero, suc, _+_, _*_, _≤_, _<_}
+use Prim.Native.Nat.{ℕ, zero, suc, _+_, _*_, _^_, _≤_, _<_}
 use mathlib.Core.Path.{_≡_, refl, sym, _∙_, ap}
 use mathlib.Core.Bool.{Bool, true, false, not, true≢false, _||_}
 use mathlib.Core.List.{List, [], _∷_, map}
@@ -13,9 +13,11 @@ use Rattle.gsd_format.specs.Bytes.{le, part, zeroIn}
 use Rattle.gsd_format.specs.Types.{sizeOf, known}
 use Rattle.gsd_format.specs.Refusals.{_⇒_, _▹_}
 use Rattle.gsd_format.specs.Opening.{twins}
+use Rattle.gsd_format.proofs.Lists.{Each, each-at, map-each}
 use Rattle.gsd_format.proofs.Refusals.{both, none-of, unmet, passed, neither, neither-of, not-of, not-less, less-no, no-differ, differ-no}
 use Rattle.gsd_format.proofs.Bytes.{Octets, Text, le-bound, part-length, part-at, no-zero, zero-out}
 use Rattle.gsd_format.proofs.Texts.{part-text}
+use Rattle.gsd_format.proofs.Names.{Named}
 use Rattle.gsd_stores.specs.Sheet.{Row, rowKind, nameSize, bodySize, badRow, badTable, bodiesEnd, rowsAt, rowCount, tableEnd, rowsOf, rowNames, anyZero, mostRows, sheetTest}
 use Rattle.gsd_stores.specs.Demand3.{noRow}
 
@@ -118,16 +120,15 @@ zero-free b h k l z = no-zero b 0 (length b) h k l (ap (λ j. getD b j 0) (let e
 free-zero : (b : List ℕ) → Full b → zeroIn b 0 (length b) ≡ false
 free-zero b h = zero-out b 0 (length b) (λ k l z. h k l (ap (λ j. getD b j 0) (let e : k ≡ 0 + k = omega arith in e) ∙ z))
 
-full-names : (ns : List (List ℕ)) → anyZero ns ≡ false → (i : ℕ) → i < length ns → Full (getD ns i [])
+full-names : (ns : List (List ℕ)) → anyZero ns ≡ false → Each Full ns
 unfolding anyZero
-full-names [] h i l = absurd (omega arith)
-full-names (b ∷ ns) h zero l = zero-free b (neither (zeroIn b 0 (length b)) _ h .0)
-full-names (b ∷ ns) h (suc i) l = full-names ns (neither (zeroIn b 0 (length b)) _ h .1) i (omega arith)
+full-names [] h = tt
+full-names (b ∷ ns) h = let r = neither (zeroIn b 0 (length b)) _ h in (zero-free b (r .0), full-names ns (r .1))
 
-names-full : (ns : List (List ℕ)) → ((i : ℕ) → i < length ns → Full (getD ns i [])) → anyZero ns ≡ false
+names-full : (ns : List (List ℕ)) → Each Full ns → anyZero ns ≡ false
 unfolding anyZero
 names-full [] h = refl
-names-full (b ∷ ns) h = neither-of (zeroIn b 0 (length b)) _ (free-zero b (h 0 (omega arith))) (names-full ns (λ i l. h (suc i) (omega arith)))
+names-full (b ∷ ns) h = neither-of (zeroIn b 0 (length b)) _ (free-zero b (h .0)) (names-full ns (h .1))
 
 -- where the i-th row of a sheet, its name and its data begin
 abbrev pub rowAt : ℕ → ℕ
@@ -146,7 +147,7 @@ pub record Accepted (s : List ℕ) : Type 0 where
   pub table : tableEnd s ≤ length s
   pub rows : (i : ℕ) → i < rowCount s → GoodRow s (rowAt i)
   pub exact : length s ≡ nameAt s (rowCount s)
-  pub full : (i : ℕ) → i < length (rowNames (rowsOf s)) → Full (getD (rowNames (rowsOf s)) i [])
+  pub full : Each Full (rowNames (rowsOf s))
   pub distinct : twins (rowNames (rowsOf s)) ≡ false
 
 pub accepted : (s : List ℕ) → sheetTest s ≡ 0 → Accepted s
@@ -220,3 +221,32 @@ module _ (s : List ℕ) (ok : Accepted s) (i : ℕ) (l : i < rowCount s) where
   pub body-size : length (getD (rowsOf s) i noRow .body) ≡ getD (rowsOf s) i noRow .n * getD (rowsOf s) i noRow .m * sizeOf (getD (rowsOf s) i noRow .kind)
   unfolding bodySize
   body-size = body-length ∙ rw (row-at s i l)
+
+  pub name-named : Named (getD (rowsOf s) i noRow .name)
+  name-named = record { some = omega (arith, name-length, ok .rows i l .named); full = each-at _ (rowsOf s) noRow (map-each Full (λ r. r .name) (rowsOf s) (ok .full)) i (omega (arith, rows-count s)) }
+
+  pub row-known : 0 < sizeOf (getD (rowsOf s) i noRow .kind)
+  row-known = rw (row-at s i l) (ok .rows i l .known)
+
+-- what every row of an accepted sheet of bytes is
+pub record RowOk (r : Row) : Type 0 where
+  pub named : Named (r .name)
+  pub short : length (r .name) ≤ 255
+  pub known : 0 < sizeOf (r .kind)
+  pub size : length (r .body) ≡ r .n * r .m * sizeOf (r .kind)
+  pub fitN : r .n < 2 ^ 64
+  pub fitM : r .m < 2 ^ 32
+  pub fitKind : r .kind < 256
+
+pub rows-ok : (s : List ℕ) → Octets s → Accepted s → (i : ℕ) → i < length (rowsOf s) → RowOk (getD (rowsOf s) i noRow)
+rows-ok s h ok i l =
+    let m : i < rowCount s = rw (rows-count s) at l in
+    record {
+      named = name-named s ok i m;
+      short = omega (arith, name-length s ok i m, h (rowAt i + 13));
+      known = row-known s ok i m;
+      size = body-size s ok i m;
+      fitN = rw (row-at s i m) (le-bound 8 s (rowAt i) h);
+      fitM = rw (row-at s i m) (le-bound 4 s (rowAt i + 8) h);
+      fitKind = rw (row-at s i m) (h (rowAt i + 12));
+    }

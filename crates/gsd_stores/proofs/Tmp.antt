@@ -8,10 +8,6 @@ use Rattle.gsd_format.specs.Names.{indexOf, flat}
 use Rattle.gsd_format.specs.Opening.{twins}
 use Rattle.gsd_format.proofs.Lists.{Each, Any}
 
-pub record Named (b : List ℕ) : Type 0 where
-  pub some : 0 < length b
-  pub full : (k : ℕ) → k < length b → getD b k 0 ≡ 0 → ⊥
-
 abbrev pub Has : List ℕ → List (List ℕ) → Type 0
 Has b ns = indexOf b ns < length ns
 
@@ -24,8 +20,20 @@ index-append b ns ms h = ?
 pub index-behind : (b : List ℕ) (ns ms : List (List ℕ)) → Lacks b ns → indexOf b (ns ++ ms) ≡ length ns + indexOf b ms
 index-behind b ns ms h = ?
 
-pub index-is : (b : List ℕ) (ns : List (List ℕ)) → Has b ns → getD ns (indexOf b ns) [] ≡ b
-index-is b ns h = ?
+pub index-inj : (a b : List ℕ) (ns : List (List ℕ)) → Has a ns → indexOf a ns ≡ indexOf b ns → a ≡ b
+index-inj a b ns h e = ?
+
+pub has-front : (b : List ℕ) (ns ms : List (List ℕ)) → Has b ns → Has b (ns ++ ms)
+has-front b ns ms h = ?
+
+pub has-back : (b : List ℕ) (ns ms : List (List ℕ)) → Has b ms → Has b (ns ++ ms)
+has-back b ns ms h = ?
+
+pub has-any : (b : List ℕ) (ns : List (List ℕ)) → Has b ns → Any (λ n. n ≡ b) ns
+has-any b ns h = ?
+
+pub any-has : (b : List ℕ) (ns : List (List ℕ)) → Any (λ n. n ≡ b) ns → Has b ns
+any-has b ns h = ?
 
 abbrev pub Distinct : List (List ℕ) → Type 0
 Distinct [] = Unit
@@ -37,14 +45,11 @@ twins-distinct ns h = ?
 pub distinct-append : (ns fs : List (List ℕ)) → Distinct ns → Distinct fs → Each (λ b. Lacks b ns) fs → Distinct (ns ++ fs)
 distinct-append ns fs a b c = ?
 
-pub has-here : (b : List ℕ) (ns : List (List ℕ)) → Has b (b ∷ ns)
-has-here b ns = ?
-
-pub has-there : (b n : List ℕ) (ns : List (List ℕ)) → Has b ns → Has b (n ∷ ns)
-has-there b n ns h = ?
-
-pub lacks-each : (b : List ℕ) (ns : List (List ℕ)) → Lacks b ns → Each (λ n. b ≡ n → ⊥) ns
+pub lacks-each : (b : List ℕ) (ns : List (List ℕ)) → Lacks b ns → Each (λ n. n ≡ b → ⊥) ns
 lacks-each b ns h = ?
 
-pub each-lacks : (b : List ℕ) (ns : List (List ℕ)) → Each (λ n. b ≡ n → ⊥) ns → Lacks b ns
+pub each-lacks : (b : List ℕ) (ns : List (List ℕ)) → Each (λ n. n ≡ b → ⊥) ns → Lacks b ns
 each-lacks b ns h = ?
+
+pub distinct-twins : (ns : List (List ℕ)) → Distinct ns → twins ns ≡ false
+distinct-twins ns h = ?
