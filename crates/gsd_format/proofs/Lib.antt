@@ -4,3 +4,5 @@ pub mod Refusals
 pub mod Bytes
 pub mod Texts
 pub mod Names
+pub mod Entries
+pub mod Lookup
