@@ -3,3 +3,4 @@ pub mod Table
 pub mod Tmp
 pub mod Sheet
 pub mod Plan
+pub mod Valid

@@ -10,16 +10,18 @@ use native.Mathlib.Omega.{arith}
 use lib.ListN.{length, getD, take, drop, replicate, length-append, length-replicate, List·getD-append}
 use lib.Seq.{getD-append-add}
 use lib.Dec.{ltb, leb}
-use borrow.Author.Tests.{le-leb, lt-leb, lt-ltb, le-ltb}
+use borrow.Author.Tests.{ltb-false, le-leb, lt-leb, lt-ltb, le-ltb}
 use Rattle.gsd_format.specs.declared.Entry.{Entry}
 use Rattle.gsd_format.specs.declared.Layout.{Layout}
 use Rattle.gsd_format.specs.Bytes.{part, zeros, roundUp}
 use Rattle.gsd_format.specs.Types.{chunkSize}
-use Rattle.gsd_format.specs.Names.{indexOf}
+use Rattle.gsd_format.specs.Names.{flat, indexOf}
+use Rattle.gsd_format.specs.Entries.{key, framesOf}
 use Rattle.gsd_format.specs.Lookup.{none}
-use Rattle.gsd_format.proofs.Lists.{Each, Any, at-each, at-any, map-each, each-map, each-at}
+use Rattle.gsd_format.proofs.Lists.{Each, Any, each-at, at-each, any-at, at-any, map-each}
 use Rattle.gsd_stores.proofs.Tmp.{Has, Lacks, Distinct, index-inj, has-any, any-has, has-front, has-back, lacks-each, each-lacks, distinct-append}
 use Rattle.gsd_format.proofs.Bytes.{Text}
+use Rattle.gsd_format.proofs.Entries.{Fits, Ordered, ordered-weaker}
 use Rattle.gsd_stores.specs.Sheet.{Row, rowNames}
 use Rattle.gsd_stores.specs.View.{View, indexEnd, namelistEnd, chunksEnd, endOfUse}
 use Rattle.gsd_stores.specs.Plan.{Plan, padded, bodies, newNames, newEntries, inserted, sorted, doubled, grown, planOf, dataEnd, namesDone, finalPosition}
@@ -368,25 +370,109 @@ unfolding Rising
 rising-ordered [] frame least top l f h = tt
 rising-ordered (e ∷ es) frame least top l f h =
     (omega (arith, f .0, h .0), omega (arith, f .0),
-    ?tail)
+    ordered-weaker es (65536 * frame + (e .id + 1)) (frame + 1) (key e + 1) (e .frame + 1) (omega (arith, f .0)) (omega (arith, f .0)) (rising-ordered es frame (e .id + 1) (frame + 1) (omega arith) (f .1) (h .1)))
 
--- The blocks
+-- The plan
 
--- the plan's positions follow one another
+-- what the two blocks hold after the append
+abbrev pub segmentsAfter : View → Plan → ℕ
+segmentsAfter v p = cond (p .namesMove) (p .segments) (v .layout .segments)
+
+abbrev pub slotsAfter : View → Plan → ℕ
+slotsAfter v p = cond (p .indexMoves) (p .slots) (v .layout .slots)
+
+-- a plan and the rows that it is made for
+pub record Planned (v : View) (rs : List Row) (p : Plan) : Type 0 where
+  pub room : EndOfUse v (p .start)
+  pub body : p .body ≡ bodies rs
+  pub fresh : p .fresh ≡ newNames (v .names) rs
+  pub entries : p .entries ≡ sorted (newEntries (p .start) (framesOf (v .entries)) (v .names ++ p .fresh) rs)
+  -- whether or not it moves, a block has room for the new list, and is no smaller than before
+  pub namesFit : length (flat (v .names)) + length (flat (p .fresh)) ≤ 64 * segmentsAfter v p
+  pub entriesFit : length (v .entries) + length (p .entries) ≤ slotsAfter v p
+  pub moreSegments : v .layout .segments ≤ segmentsAfter v p
+  pub moreSlots : v .layout .slots ≤ slotsAfter v p
+  -- a new block has at least twice the old count
+  pub twiceSegments : 2 * max 1 (v .layout .segments) ≤ p .segments
+  pub twiceSlots : 2 * max 1 (v .layout .slots) ≤ p .slots
+
+chosen : (P : ℕ → Type 0) (moves : Bool) (new old : ℕ) → P new → (moves ≡ false → P old) → P (cond moves new old)
+chosen P true new old f g = f
+chosen P false new old f g = g refl
+
+pub planned : (v : View) (rs : List Row) → Planned v rs (planOf v rs)
+unfolding planOf
+planned v rs =
+    let fresh : List (List ℕ) = newNames (v .names) rs in
+    let entries : List Entry = sorted (newEntries (endOfUse v) (framesOf (v .entries)) (v .names ++ fresh) rs) in
+    let bytes : ℕ = length (flat (v .names)) + length (flat fresh) in
+    let count : ℕ = length (v .entries) + length entries in
+    let segments : ℕ = v .layout .segments in
+    let slots : ℕ = v .layout .slots in
+    let moreSegments : 2 * max 1 segments ≤ grown ((bytes + 63) / 64) segments = grown-more ((bytes + 63) / 64) segments in
+    let moreSlots : 2 * max 1 slots ≤ grown count slots = grown-more count slots in
+    record {
+      room = end-of-use v;
+      body = refl;
+      fresh = refl;
+      entries = refl;
+      namesFit = chosen (λ n. bytes ≤ 64 * n) (ltb (64 * segments) bytes) _ segments (omega (arith, grown-enough ((bytes + 63) / 64) segments)) (ltb-false (64 * segments) bytes);
+      entriesFit = chosen (λ n. count ≤ n) (ltb slots count) _ slots (grown-enough count slots) (ltb-false slots count);
+      moreSegments = chosen (λ n. segments ≤ n) (ltb (64 * segments) bytes) _ segments (omega arith) (λ e. omega arith);
+      moreSlots = chosen (λ n. slots ≤ n) (ltb slots count) _ slots (omega arith) (λ e. omega arith);
+      twiceSegments = moreSegments;
+      twiceSlots = moreSlots;
+    }
+
+-- the plan's positions follow one another, and are multiples of 8
 pub positions : (p : Plan) → (dataEnd p ≤ namesDone p) × (namesDone p ≤ finalPosition p)
-positions p = (go (p .namesMove) (dataEnd p) (64 * p .segments), go (p .indexMoves) (namesDone p) (32 * p .slots))
+positions p = (more (p .namesMove) (dataEnd p) (64 * p .segments), more (p .indexMoves) (namesDone p) (32 * p .slots))
   where
-    go : (b : Bool) (a n : ℕ) → a ≤ cond b (a + n) a
-    go true a n = omega arith
-    go false a n = omega arith
+    more : (moves : Bool) (a n : ℕ) → a ≤ cond moves (a + n) a
+    more moves a n = chosen (λ k. a ≤ k) moves (a + n) a (omega arith) (λ e. omega arith)
 
-pub positions-even : (p : Plan) → dataEnd p % 8 ≡ 0 → (namesDone p % 8 ≡ 0) × (finalPosition p % 8 ≡ 0)
-positions-even p h = let e : namesDone p % 8 ≡ 0 = go (p .namesMove) (dataEnd p) (8 * p .segments) (64 * p .segments) (omega arith) h in (e, go (p .indexMoves) (namesDone p) (4 * p .slots) (32 * p .slots) (omega arith) e)
-  where
-    go : (b : Bool) (a n m : ℕ) → m ≡ 8 * n → a % 8 ≡ 0 → cond b (a + m) a % 8 ≡ 0
-    go true a n m e h = omega arith
-    go false a n m e h = h
+module _ (v : View) (rs : List Row) (p : Plan) (h : Planned v rs p) where
+  pub body-even : length (p .body) % 8 ≡ 0
+  body-even = rw (h .body) (bodies-even rs)
 
--- a block that moves when what it must hold is more than it holds: afterwards it holds it, and it is no smaller
-fitting : (unit need old : ℕ) → need ≤ unit * cond (ltb (unit * old) need) (grown ((need + (unit - 1)) / unit) old) old
-fitting unit need old = ?fit
+  pub positions-even : (dataEnd p % 8 ≡ 0) × (namesDone p % 8 ≡ 0) × (finalPosition p % 8 ≡ 0)
+  positions-even =
+      let stored : dataEnd p % 8 ≡ 0 = omega (arith, h .room .even, body-even) in
+      let names : namesDone p % 8 ≡ 0 = chosen (λ k. k % 8 ≡ 0) (p .namesMove) (dataEnd p + 64 * p .segments) (dataEnd p) (omega arith) (λ e. stored) in
+      (stored, names, chosen (λ k. k % 8 ≡ 0) (p .indexMoves) (namesDone p + 32 * p .slots) (namesDone p) (omega arith) (λ e. names))
+
+  pub entries-count : length (p .entries) ≡ length rs
+  entries-count = rw (h .entries) (sorted-length _ ∙ new-length rs (p .start) (framesOf (v .entries)) (v .names ++ p .fresh))
+
+-- Rows and new entries
+
+-- the rows' entries in row order, and the i-th of them
+abbrev pub rowEntries : View → List Row → Plan → List Entry
+rowEntries v rs p = newEntries (p .start) (framesOf (v .entries)) (v .names ++ p .fresh) rs
+
+abbrev pub rowEntry : View → List Row → Plan → ℕ → Entry
+rowEntry v rs p i = newEntry (p .start + bodyOffset rs i) (framesOf (v .entries)) (v .names ++ p .fresh) (getD rs i noRow)
+
+-- the j-th new entry is that of the i-th row
+pub record RowEntry (v : View) (rs : List Row) (p : Plan) (i j : ℕ) : Type 0 where
+  pub row : i < length rs
+  pub entry : j < length (p .entries)
+  pub is : getD (p .entries) j none ≡ rowEntry v rs p i
+
+module _ (v : View) (rs : List Row) (p : Plan) (h : Planned v rs p) where
+  row-at : (i : ℕ) → i < length rs → getD (rowEntries v rs p) i none ≡ rowEntry v rs p i
+  row-at = new-at rs (p .start) (framesOf (v .entries)) (v .names ++ p .fresh)
+
+  -- each row has its entry, and each new entry its row
+  pub row-entry : (i : ℕ) → i < length rs → (j : ℕ) × RowEntry v rs p i j
+  row-entry i l =
+      let found : Any (λ e. e ≡ rowEntry v rs p i) (p .entries) = rw (h .entries) (sorted-any _ (rowEntries v rs p) (at-any _ (rowEntries v rs p) none i (rw new-length l) (row-at i l))) in
+      let (j, m, is) = any-at (λ e. e ≡ rowEntry v rs p i) (p .entries) none found in
+      (j, record { row = l; entry = m; is = is })
+
+  pub entry-row : (j : ℕ) → j < length (p .entries) → (i : ℕ) × RowEntry v rs p i j
+  entry-row j m =
+      let rows : Each (λ e. (i : ℕ) × (i < length rs) × (e ≡ rowEntry v rs p i)) (rowEntries v rs p) = at-each _ (rowEntries v rs p) none (λ i l. let k : i < length rs = rw new-length at l in (i, k, row-at i k)) in
+      let all : Each (λ e. (i : ℕ) × (i < length rs) × (e ≡ rowEntry v rs p i)) (p .entries) = rw (h .entries) (sorted-each _ (rowEntries v rs p) rows) in
+      let (i, l, is) = each-at _ (p .entries) none all j m in
+      (i, record { row = l; entry = m; is = is })

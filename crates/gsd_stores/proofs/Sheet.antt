@@ -18,6 +18,7 @@ use Rattle.gsd_format.proofs.Refusals.{both, none-of, unmet, passed, neither, n
 use Rattle.gsd_format.proofs.Bytes.{Octets, Text, le-bound, part-length, part-at, no-zero, zero-out}
 use Rattle.gsd_format.proofs.Texts.{part-text}
 use Rattle.gsd_format.proofs.Names.{Named}
+use Rattle.gsd_stores.proofs.Tmp.{Distinct, twins-distinct, distinct-twins}
 use Rattle.gsd_stores.specs.Sheet.{Row, rowKind, nameSize, bodySize, badRow, badTable, bodiesEnd, rowsAt, rowCount, tableEnd, rowsOf, rowNames, anyZero, mostRows, sheetTest}
 use Rattle.gsd_stores.specs.Demand3.{noRow}
 
@@ -148,7 +149,7 @@ pub record Accepted (s : List ℕ) : Type 0 where
   pub rows : (i : ℕ) → i < rowCount s → GoodRow s (rowAt i)
   pub exact : length s ≡ nameAt s (rowCount s)
   pub full : Each Full (rowNames (rowsOf s))
-  pub distinct : twins (rowNames (rowsOf s)) ≡ false
+  pub distinct : Distinct (rowNames (rowsOf s))
 
 pub accepted : (s : List ℕ) → sheetTest s ≡ 0 → Accepted s
 unfolding sheetTest
@@ -169,7 +170,7 @@ accepted s h =
       rows = good-table (rowCount s) s 4 (unmet _ _ (from24 .0));
       exact = no-differ _ _ _ (from25 .0) ∙ bodies-end (rowCount s) s 4 (tableEnd s);
       full = full-names (rowNames (rowsOf s)) (unmet _ _ (from26 .0));
-      distinct = unmet _ _ (from26 .1);
+      distinct = twins-distinct (rowNames (rowsOf s)) (unmet _ _ (from26 .1));
     }
 
 pub accepts : (s : List ℕ) → Accepted s → sheetTest s ≡ 0
@@ -181,7 +182,7 @@ accepts s h =
     (none-of _ _ (passed _ _ (table-good (rowCount s) s 4 (h .rows)))
     (none-of _ _ (differ-no _ _ _ (h .exact ∙ sym (bodies-end (rowCount s) s 4 (tableEnd s))))
     (none-of _ _ (passed _ _ (names-full (rowNames (rowsOf s)) (h .full)))
-    (passed _ _ (h .distinct))))))
+    (passed _ _ (distinct-twins (rowNames (rowsOf s)) (h .distinct)))))))
 
 -- The rows of an accepted sheet
 
