@@ -3,4 +3,5 @@ pub mod Lists
 pub mod Refusals
 pub mod Bytes
 pub mod Texts
+pub mod Ids
 pub mod Names
