@@ -3,6 +3,7 @@ pub mod Lists
 pub mod Refusals
 pub mod Bytes
 pub mod Texts
+pub mod Ids
 pub mod Names
 pub mod Entries
 pub mod Lookup
