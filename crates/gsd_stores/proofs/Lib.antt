@@ -1,6 +1,5 @@
 -- The theorems about appends and what leads to them.
 pub mod Table
-pub mod Tmp
 pub mod Sheet
 pub mod Plan
 pub mod Valid

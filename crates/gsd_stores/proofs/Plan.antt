@@ -19,7 +19,7 @@ use Rattle.gsd_format.specs.Names.{flat, indexOf}
 use Rattle.gsd_format.specs.Entries.{key, framesOf}
 use Rattle.gsd_format.specs.Lookup.{none}
 use Rattle.gsd_format.proofs.Lists.{Each, Any, each-at, at-each, any-at, at-any, map-each}
-use Rattle.gsd_stores.proofs.Tmp.{Has, Lacks, Distinct, index-inj, has-any, any-has, has-front, has-back, lacks-each, each-lacks, distinct-append}
+use Rattle.gsd_format.proofs.Ids.{Has, Lacks, Distinct, index-inj, has-any, any-has, has-front, has-back, lacks-each, each-lacks, distinct-append}
 use Rattle.gsd_format.proofs.Bytes.{Text}
 use Rattle.gsd_format.proofs.Entries.{Fits, Ordered, ordered-weaker}
 use Rattle.gsd_stores.specs.Sheet.{Row, rowNames}

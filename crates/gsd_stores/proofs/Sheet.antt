@@ -18,7 +18,7 @@ use Rattle.gsd_format.proofs.Refusals.{both, none-of, unmet, passed, neither, n
 use Rattle.gsd_format.proofs.Bytes.{Octets, Text, le-bound, part-length, part-at, no-zero, zero-out}
 use Rattle.gsd_format.proofs.Texts.{part-text}
 use Rattle.gsd_format.proofs.Names.{Named}
-use Rattle.gsd_stores.proofs.Tmp.{Distinct, twins-distinct, distinct-twins}
+use Rattle.gsd_format.proofs.Ids.{Distinct, twins-distinct, distinct-twins}
 use Rattle.gsd_stores.specs.Sheet.{Row, rowKind, nameSize, bodySize, badRow, badTable, bodiesEnd, rowsAt, rowCount, tableEnd, rowsOf, rowNames, anyZero, mostRows, sheetTest}
 use Rattle.gsd_stores.specs.Demand3.{noRow}
 

@@ -24,7 +24,7 @@ use Rattle.gsd_stores.specs.View.{View, viewOf}
 use Rattle.gsd_stores.specs.Plan.{Plan, bodies, newNames, planOf, dataEnd, finalPosition}
 use Rattle.gsd_stores.specs.Append.{planTest, appendTest}
 use Rattle.gsd_stores.specs.Demand3.{noRow}
-use Rattle.gsd_stores.proofs.Tmp.{Has, Distinct}
+use Rattle.gsd_format.proofs.Ids.{Has, Distinct}
 use Rattle.gsd_stores.proofs.Sheet.{Accepted, RowOk, accepted, rows-count, rows-ok}
 use Rattle.gsd_stores.proofs.Plan.{EndOfUse, Planned, RowEntry, rowEntry, bodyOffset, offset-even, offset-within, new-each, new-all, new-differing, sorted-rising, sorted-each, rising-ordered, planned, entry-row}
 
