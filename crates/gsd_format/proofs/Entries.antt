@@ -9,7 +9,8 @@ use lib.ListN.{length, getD, length-append}
 use borrow.Author.Tests.{ne-eqb}
 use Rattle.gsd_format.specs.declared.Entry.{Entry}
 use Rattle.gsd_format.specs.Bytes.{le}
-use Rattle.gsd_format.specs.Entries.{entryAt, entriesAt, key, framesFrom}
+use Rattle.gsd_format.specs.Header.{layoutOf}
+use Rattle.gsd_format.specs.Entries.{entryAt, entriesAt, entriesOf, key, framesFrom}
 use Rattle.gsd_format.specs.Lookup.{none}
 use Rattle.gsd_format.proofs.Bytes.{Same, Octets, same-from, le-same, le-bound}
 
@@ -132,14 +133,16 @@ is-entries (suc n) x at (e ∷ es) h =
     entries-more x at n (λ z. h .real 0 (omega arith) (sym (ap (λ c. c .location) head) ∙ entry-location x at ∙ z)) ∙ (λ i. head i ∷ tail i)
 
 -- slot by slot: the list goes on behind i entries exactly when there is a slot more and its location is not 0
-pub entries-stop : (x : List ℕ) (at n : ℕ) (es : List Entry) → IsEntries x at n es → (i : ℕ) → i ≤ length es → (i < n → le 8 x (at + 32 * i + 16) ≡ 0) → length es ≡ i
+pub entries-stop : (x : List ℕ) (at n : ℕ) (es : List Entry) → IsEntries x at n es → (i : ℕ) → i ≤ length es →
+    (i < n → le 8 x (at + 32 * i + 16) ≡ 0) → length es ≡ i
 entries-stop x at n es h i l z = go (decLt i (length es))
   where
     go : Dec (i < length es) → length es ≡ i
     go (yes u) = absurd (h .real i u (sym (ap (λ c. c .location) (h .each i u)) ∙ entry-location x (at + 32 * i) ∙ z (omega (arith, h .few))))
     go (no u) = omega arith
 
-pub entries-go : (x : List ℕ) (at n : ℕ) (es : List Entry) → IsEntries x at n es → (i : ℕ) → i ≤ length es → i < n → (le 8 x (at + 32 * i + 16) ≡ 0 → ⊥) → i < length es
+pub entries-go : (x : List ℕ) (at n : ℕ) (es : List Entry) → IsEntries x at n es → (i : ℕ) → i ≤ length es → i < n →
+    (le 8 x (at + 32 * i + 16) ≡ 0 → ⊥) → i < length es
 entries-go x at n es h i l u z = go (decLt i (length es))
   where
     go : Dec (i < length es) → i < length es
@@ -180,14 +183,30 @@ pub entries-grown : (x : List ℕ) (a n : ℕ) (es new : List Entry) →
     (length es + length new < n → le 8 x (a + 32 * length es + 32 * length new + 16) ≡ 0) → IsEntries x a n (es ++ new)
 entries-grown x a n es new each real f newEach newReal c = record {
   few = rw length-append f;
-  each = each-append (λ i e. entryAt x (a + 32 * i) ≡ e) es new each (λ i l. ap (entryAt x) (let q : a + 32 * (length es + i) ≡ a + 32 * length es + 32 * i = omega arith in q) ∙ newEach i l);
+  each = each-append (λ i e. entryAt x (a + 32 * i) ≡ e) es new each (λ i l. ap (entryAt x) (behind i) ∙ newEach i l);
   real = each-append (λ i e. e .location ≡ 0 → ⊥) es new real newReal;
-  closed = rw length-append (λ l. ap (le 8 x) (let q : a + 32 * (length es + length new) + 16 ≡ a + 32 * length es + 32 * length new + 16 = omega arith in q) ∙ c l);
+  closed = rw length-append (λ l. ap (λ p. le 8 x (p + 16)) (behind (length new)) ∙ c l);
 }
+  where
+    behind : (i : ℕ) → a + 32 * (length es + i) ≡ a + 32 * length es + 32 * i
+    behind i = omega arith
 
--- The entries of an image of bytes fit
+-- in an image of bytes the listed entries fit
 pub entries-fit : (x : List ℕ) (at n : ℕ) → Octets x → (i : ℕ) → i < length (entriesAt x at n) → Fits (getD (entriesAt x at n) i none)
 entries-fit x at n h i l = rw (← entries-is n x at .each i l) (entry-fits x (at + 32 * i) h)
+
+-- the list of an image
+pub image-entries : (x : List ℕ) → IsEntries x (layoutOf x .index) (layoutOf x .slots) (entriesOf x)
+unfolding entriesOf
+image-entries x = entries-is (layoutOf x .slots) x (layoutOf x .index)
+
+pub entries-image : (x : List ℕ) (es : List Entry) → IsEntries x (layoutOf x .index) (layoutOf x .slots) es → entriesOf x ≡ es
+unfolding entriesOf
+entries-image x es h = is-entries (layoutOf x .slots) x (layoutOf x .index) es h
+
+pub image-fits : (x : List ℕ) → Octets x → (i : ℕ) → i < length (entriesOf x) → Fits (getD (entriesOf x) i none)
+unfolding entriesOf
+image-fits x = entries-fit x (layoutOf x .index) (layoutOf x .slots)
 
 -- The number of frames
 

@@ -6,4 +6,5 @@ pub mod Texts
 pub mod Ids
 pub mod Names
 pub mod Entries
+pub mod Verdict
 pub mod Lookup

@@ -29,6 +29,12 @@ pub record Stands (es : List Entry) (frame id : ℕ) (e : Entry) : Type 0 where
   pub sameFrame : e .frame ≡ frame
   pub sameId : e .id ≡ id
 
+pub stands-frame : {es : List Entry} {frame id : ℕ} {e : Entry} (s : Stands es frame id e) → getD es (s .place) none .frame ≡ frame
+stands-frame s = ap (λ c. c .frame) (s .there) ∙ s .sameFrame
+
+pub stands-id : {es : List Entry} {frame id : ℕ} {e : Entry} (s : Stands es frame id e) → getD es (s .place) none .id ≡ id
+stands-id s = ap (λ c. c .id) (s .there) ∙ s .sameId
+
 -- no entry of the list has this frame and id
 abbrev pub Lacks : List Entry → ℕ → ℕ → Type 0
 Lacks es frame id = (i : ℕ) → i < length es → getD es i none .frame ≡ frame → getD es i none .id ≡ id → ⊥
@@ -65,24 +71,13 @@ find-at frame id [] i l f d n = absurd (omega arith)
 find-at frame id (e ∷ es) zero l f d n = find-here frame id e es f d
 find-at frame id (e ∷ es) (suc i) l f d n = find-on frame id e es (n 0 (omega arith)) ∙ find-at frame id es i (omega arith) f d (λ j u. n (suc j) (omega arith))
 
--- in an ordered list it is the only one
-pub find-any : (frame id : ℕ) (es : List Entry) (least top : ℕ) → Ordered least top es → (e : Entry) → Stands es frame id e → findEntry frame id es ≡ Listed.Found e
-find-any frame id es least top h e s =
-    find-at frame id es (s .place) (s .within) f d (λ j l g c. absurd (omega (arith, one-place es least top h j (s .place) (omega (arith, s .within)) (s .within) (g ∙ sym f) (c ∙ sym d))))
-    ∙ ap Listed.Found (s .there)
-  where
-    f : getD es (s .place) none .frame ≡ frame
-    f = ap (λ c. c .frame) (s .there) ∙ s .sameFrame
-
-    d : getD es (s .place) none .id ≡ id
-    d = ap (λ c. c .id) (s .there) ∙ s .sameId
-
 -- what an answer says of the list
 pub data Sought (es : List Entry) (frame id : ℕ) : Listed → Type 0 where
   found : {e : Entry} → Stands es frame id e → Sought es frame id (Listed.Found e)
   missing : Lacks es frame id → Sought es frame id (Listed.Refused 42)
 
-sought-behind : (frame id : ℕ) (e : Entry) (es : List Entry) {r : Listed} → (e .frame ≡ frame → e .id ≡ id → ⊥) → Sought es frame id r → Sought (e ∷ es) frame id r
+sought-behind : (frame id : ℕ) (e : Entry) (es : List Entry) {r : Listed} → (e .frame ≡ frame → e .id ≡ id → ⊥) →
+    Sought es frame id r → Sought (e ∷ es) frame id r
 sought-behind frame id e es n (found s) =
     found (record { place = suc (s .place); within = omega (arith, s .within); there = s .there; sameFrame = s .sameFrame; sameId = s .sameId })
 sought-behind frame id e es n (missing m) = missing go
@@ -117,7 +112,21 @@ find-lacks frame id es k h = go (find-is frame id es) h
     go (found s) h = let z : _≡_ {A = ℕ} 0 1 = cc in absurd (omega arith)
     go (missing m) h = m
 
--- entries behind a list
+-- an entry is found wherever it stands, if all entries with its frame and id are equal to it; so in an ordered list always
+pub find-any : (frame id : ℕ) (es : List Entry) (e : Entry) → Stands es frame id e →
+    ((i : ℕ) → i < length es → getD es i none .frame ≡ frame → getD es i none .id ≡ id → getD es i none ≡ e) → findEntry frame id es ≡ Listed.Found e
+find-any frame id es e s one = go (find-is frame id es) refl
+  where
+    go : {r : Listed} → Sought es frame id r → findEntry frame id es ≡ r → findEntry frame id es ≡ Listed.Found e
+    go (found t) h = h ∙ ap Listed.Found (sym (t .there) ∙ one (t .place) (t .within) (stands-frame t) (stands-id t))
+    go (missing m) h = absurd (m (s .place) (s .within) (stands-frame s) (stands-id s))
+
+pub find-ordered : (frame id : ℕ) (es : List Entry) (least top : ℕ) → Ordered least top es → (e : Entry) → Stands es frame id e →
+    findEntry frame id es ≡ Listed.Found e
+find-ordered frame id es least top h e s = find-any frame id es e s (λ i l f d.
+    ap (λ j. getD es j none) (one-place es least top h i (s .place) l (s .within) (f ∙ sym (stands-frame s)) (d ∙ sym (stands-id s))) ∙ s .there)
+
+-- Entries behind a list
 
 pub find-append : (frame id : ℕ) (es more : List Entry) (e : Entry) → findEntry frame id es ≡ Listed.Found e → findEntry frame id (es ++ more) ≡ Listed.Found e
 find-append frame id [] more e h = let z : _≡_ {A = ℕ} 0 1 = cc (find-end frame id) in absurd (omega arith)
@@ -133,7 +142,8 @@ pub find-back : (frame id : ℕ) (es more : List Entry) → Lacks more frame id 
 find-back frame id [] more n = find-none frame id more n ∙ sym (find-end frame id)
 find-back frame id (c ∷ es) more n = go (find-back frame id es more n) (it-is frame id c)
   where
-    go : findEntry frame id (es ++ more) ≡ findEntry frame id es → Dec ((c .frame ≡ frame) × (c .id ≡ id)) → findEntry frame id (c ∷ es ++ more) ≡ findEntry frame id (c ∷ es)
+    go : findEntry frame id (es ++ more) ≡ findEntry frame id es → Dec ((c .frame ≡ frame) × (c .id ≡ id)) →
+        findEntry frame id (c ∷ es ++ more) ≡ findEntry frame id (c ∷ es)
     go r (yes p) = find-here frame id c (es ++ more) (p .0) (p .1) ∙ sym (find-here frame id c es (p .0) (p .1))
     go r (no p) = find-on frame id c (es ++ more) (λ f d. p (f, d)) ∙ r ∙ sym (find-on frame id c es (λ f d. p (f, d)))
 
@@ -143,19 +153,6 @@ find-behind frame id (c ∷ es) more n = find-on frame id c (es ++ more) (n 0 (o
 
 -- An entry by frame and name
 
-pub look-frame : (es : List Entry) (ns : List (List ℕ)) (frame : ℕ) (name : List ℕ) → framesOf es ≤ frame → lookupIn es ns frame name ≡ Listed.Refused 40
-unfolding lookupIn
-look-frame es ns frame name h = rw (le-ltb frame (framesOf es) h, lookupIn)
-
-pub look-name : (es : List Entry) (ns : List (List ℕ)) (frame : ℕ) (name : List ℕ) → frame < framesOf es → length ns ≤ indexOf name ns → lookupIn es ns frame name ≡ Listed.Refused 41
-unfolding lookupIn
-look-name es ns frame name f n = rw (lt-ltb frame (framesOf es) f, le-ltb (indexOf name ns) (length ns) n, lookupIn)
-
-pub look-entry : (es : List Entry) (ns : List (List ℕ)) (frame : ℕ) (name : List ℕ) → frame < framesOf es → indexOf name ns < length ns →
-    lookupIn es ns frame name ≡ findEntry frame (indexOf name ns) es
-unfolding lookupIn
-look-entry es ns frame name f n = rw (lt-ltb frame (framesOf es) f, lt-ltb (indexOf name ns) (length ns) n, lookupIn)
-
 -- what an answer says of the entries and the names
 pub data Looked (es : List Entry) (ns : List (List ℕ)) (frame : ℕ) (name : List ℕ) : Listed → Type 0 where
   noFrame : framesOf es ≤ frame → Looked es ns frame name (Listed.Refused 40)
@@ -163,35 +160,49 @@ pub data Looked (es : List Entry) (ns : List (List ℕ)) (frame : ℕ) (name : L
   noEntry : frame < framesOf es → indexOf name ns < length ns → Lacks es frame (indexOf name ns) → Looked es ns frame name (Listed.Refused 42)
   listed : {e : Entry} → frame < framesOf es → indexOf name ns < length ns → Stands es frame (indexOf name ns) e → Looked es ns frame name (Listed.Found e)
 
-pub look-is : (es : List Entry) (ns : List (List ℕ)) (frame : ℕ) (name : List ℕ) → Looked es ns frame name (lookupIn es ns frame name)
-look-is es ns frame name = go (decLt frame (framesOf es)) (decLt (indexOf name ns) (length ns))
-  where
-    sought : {r : Listed} → frame < framesOf es → indexOf name ns < length ns → Sought es frame (indexOf name ns) r → Looked es ns frame name r
-    sought f n (found s) = listed f n s
-    sought f n (missing m) = noEntry f n m
+-- the frame is there, the name is listed, and the list has this entry of the two
+abbrev pub Met : List Entry → List (List ℕ) → ℕ → List ℕ → Entry → Type 0
+Met es ns frame name e = (frame < framesOf es) × (indexOf name ns < length ns) × (findEntry frame (indexOf name ns) es ≡ Listed.Found e)
 
-    go : Dec (frame < framesOf es) → Dec (indexOf name ns < length ns) → Looked es ns frame name (lookupIn es ns frame name)
-    go (yes f) (yes n) = rw (look-entry es ns frame name f n) (sought f n (find-is frame (indexOf name ns) es))
-    go (yes f) (no n) = let l : length ns ≤ indexOf name ns = omega arith in rw (look-name es ns frame name f l) (noName f l)
-    go (no f) n = let l : framesOf es ≤ frame = omega arith in rw (look-frame es ns frame name l) (noFrame l)
-
--- found exactly when the frame is there, the name is listed and an entry has both
-pub look-found : (es : List Entry) (ns : List (List ℕ)) (frame : ℕ) (name : List ℕ) (e : Entry) →
-    lookupIn es ns frame name ≡ Listed.Found e ↔ (frame < framesOf es) × (indexOf name ns < length ns) × (findEntry frame (indexOf name ns) es ≡ Listed.Found e)
-look-found es ns frame name e = (λ h. go (look-is es ns frame name) h h, λ p. look-entry es ns frame name (p .0) (p .1) ∙ p .2)
-  where
-    go : {r : Listed} → Looked es ns frame name r → r ≡ Listed.Found e → lookupIn es ns frame name ≡ Listed.Found e →
-        (frame < framesOf es) × (indexOf name ns < length ns) × (findEntry frame (indexOf name ns) es ≡ Listed.Found e)
-    go (listed f n s) q h = (f, n, sym (look-entry es ns frame name f n) ∙ h)
-    go (noFrame f) q h = let z : _≡_ {A = ℕ} 0 1 = cc in absurd (omega arith)
-    go (noName f n) q h = let z : _≡_ {A = ℕ} 0 1 = cc in absurd (omega arith)
-    go (noEntry f n m) q h = let z : _≡_ {A = ℕ} 0 1 = cc in absurd (omega arith)
-
--- and each refusal exactly when its test is the first to apply
 module _ (es : List Entry) (ns : List (List ℕ)) (frame : ℕ) (name : List ℕ) where
+  pub look-frame : framesOf es ≤ frame → lookupIn es ns frame name ≡ Listed.Refused 40
+  unfolding lookupIn
+  look-frame h = rw (le-ltb frame (framesOf es) h, lookupIn)
+
+  pub look-name : frame < framesOf es → length ns ≤ indexOf name ns → lookupIn es ns frame name ≡ Listed.Refused 41
+  unfolding lookupIn
+  look-name f n = rw (lt-ltb frame (framesOf es) f, le-ltb (indexOf name ns) (length ns) n, lookupIn)
+
+  pub look-entry : frame < framesOf es → indexOf name ns < length ns → lookupIn es ns frame name ≡ findEntry frame (indexOf name ns) es
+  unfolding lookupIn
+  look-entry f n = rw (lt-ltb frame (framesOf es) f, lt-ltb (indexOf name ns) (length ns) n, lookupIn)
+
+  pub look-is : Looked es ns frame name (lookupIn es ns frame name)
+  look-is = go (decLt frame (framesOf es)) (decLt (indexOf name ns) (length ns))
+    where
+      sought : {r : Listed} → frame < framesOf es → indexOf name ns < length ns → Sought es frame (indexOf name ns) r → Looked es ns frame name r
+      sought f n (found s) = listed f n s
+      sought f n (missing m) = noEntry f n m
+
+      go : Dec (frame < framesOf es) → Dec (indexOf name ns < length ns) → Looked es ns frame name (lookupIn es ns frame name)
+      go (yes f) (yes n) = rw (look-entry f n) (sought f n (find-is frame (indexOf name ns) es))
+      go (yes f) (no n) = let l : length ns ≤ indexOf name ns = omega arith in rw (look-name f l) (noName f l)
+      go (no f) n = let l : framesOf es ≤ frame = omega arith in rw (look-frame l) (noFrame l)
+
+  -- found exactly when the three are met
+  pub look-found : (e : Entry) → lookupIn es ns frame name ≡ Listed.Found e ↔ Met es ns frame name e
+  look-found e = (λ h. go look-is h h, λ p. look-entry (p .0) (p .1) ∙ p .2)
+    where
+      go : {r : Listed} → Looked es ns frame name r → r ≡ Listed.Found e → lookupIn es ns frame name ≡ Listed.Found e → Met es ns frame name e
+      go (noFrame f) q h = let z : _≡_ {A = ℕ} 0 1 = cc in absurd (omega arith)
+      go (noName f n) q h = let z : _≡_ {A = ℕ} 0 1 = cc in absurd (omega arith)
+      go (noEntry f n m) q h = let z : _≡_ {A = ℕ} 0 1 = cc in absurd (omega arith)
+      go (listed f n s) q h = (f, n, sym (look-entry f n) ∙ h)
+
+  -- and each refusal exactly when its test is the first to apply
   pub look-40 : listedNumber (lookupIn es ns frame name) ≡ 40 ↔ framesOf es ≤ frame
   unfolding listedNumber
-  look-40 = (go (look-is es ns frame name), λ f. ap listedNumber (look-frame es ns frame name f))
+  look-40 = (go look-is, λ f. ap listedNumber (look-frame f))
     where
       go : {r : Listed} → Looked es ns frame name r → listedNumber r ≡ 40 → framesOf es ≤ frame
       go (noFrame f) h = f
@@ -201,7 +212,7 @@ module _ (es : List Entry) (ns : List (List ℕ)) (frame : ℕ) (name : List ℕ
 
   pub look-41 : listedNumber (lookupIn es ns frame name) ≡ 41 ↔ (frame < framesOf es) × (length ns ≤ indexOf name ns)
   unfolding listedNumber
-  look-41 = (go (look-is es ns frame name), λ p. ap listedNumber (look-name es ns frame name (p .0) (p .1)))
+  look-41 = (go look-is, λ p. ap listedNumber (look-name (p .0) (p .1)))
     where
       go : {r : Listed} → Looked es ns frame name r → listedNumber r ≡ 41 → (frame < framesOf es) × (length ns ≤ indexOf name ns)
       go (noFrame f) h = omega arith
@@ -211,9 +222,10 @@ module _ (es : List Entry) (ns : List (List ℕ)) (frame : ℕ) (name : List ℕ
 
   pub look-42 : listedNumber (lookupIn es ns frame name) ≡ 42 ↔ (frame < framesOf es) × (indexOf name ns < length ns) × Lacks es frame (indexOf name ns)
   unfolding listedNumber
-  look-42 = (go (look-is es ns frame name), λ p. ap listedNumber (look-entry es ns frame name (p .0) (p .1) ∙ find-none frame (indexOf name ns) es (p .2)))
+  look-42 = (go look-is, λ p. ap listedNumber (look-entry (p .0) (p .1) ∙ find-none frame (indexOf name ns) es (p .2)))
     where
-      go : {r : Listed} → Looked es ns frame name r → listedNumber r ≡ 42 → (frame < framesOf es) × (indexOf name ns < length ns) × Lacks es frame (indexOf name ns)
+      go : {r : Listed} → Looked es ns frame name r → listedNumber r ≡ 42 →
+          (frame < framesOf es) × (indexOf name ns < length ns) × Lacks es frame (indexOf name ns)
       go (noFrame f) h = absurd (omega arith)
       go (noName f n) h = absurd (omega arith)
       go (noEntry f n m) h = (f, n, m)
@@ -223,7 +235,7 @@ module _ (es : List Entry) (ns : List (List ℕ)) (frame : ℕ) (name : List ℕ
   pub look-absent : frame < framesOf es → ((e : Entry) → lookupIn es ns frame name ≡ Listed.Found e → ⊥) →
       (listedNumber (lookupIn es ns frame name) ≡ 41) ⊎ (listedNumber (lookupIn es ns frame name) ≡ 42)
   unfolding listedNumber
-  look-absent f n = go (look-is es ns frame name) refl
+  look-absent f n = go look-is refl
     where
       go : {r : Listed} → Looked es ns frame name r → lookupIn es ns frame name ≡ r → (listedNumber r ≡ 41) ⊎ (listedNumber r ≡ 42)
       go (noFrame g) h = absurd (omega arith)
@@ -231,27 +243,29 @@ module _ (es : List Entry) (ns : List (List ℕ)) (frame : ℕ) (name : List ℕ
       go (noEntry g l m) h = inr refl
       go (listed {e = e} g l s) h = absurd (n e h)
 
--- More entries and names. Of the names only their places matter: where name is listed in ns, it has the same place in more
+-- More entries and names. Of the names only their places matter: where name is listed in ns, it has the same place in ms
 
 -- what was found stays found
-pub look-kept : (es more : List Entry) (ns ms : List (List ℕ)) (frame : ℕ) (name : List ℕ) (e : Entry) → framesOf es ≤ framesOf (es ++ more) → length ns ≤ length ms →
-    (indexOf name ns < length ns → indexOf name ms ≡ indexOf name ns) → lookupIn es ns frame name ≡ Listed.Found e → lookupIn (es ++ more) ms frame name ≡ Listed.Found e
+pub look-kept : (es more : List Entry) (ns ms : List (List ℕ)) (frame : ℕ) (name : List ℕ) (e : Entry) →
+    framesOf es ≤ framesOf (es ++ more) → length ns ≤ length ms → (indexOf name ns < length ns → indexOf name ms ≡ indexOf name ns) →
+    lookupIn es ns frame name ≡ Listed.Found e → lookupIn (es ++ more) ms frame name ≡ Listed.Found e
 look-kept es more ns ms frame name e f n same h =
-    let p : (frame < framesOf es) × (indexOf name ns < length ns) × (findEntry frame (indexOf name ns) es ≡ Listed.Found e) = look-found es ns frame name e .0 h in
+    let p : Met es ns frame name e = look-found es ns frame name e .0 h in
     let q : indexOf name ms ≡ indexOf name ns = same (p .1) in
     look-entry (es ++ more) ms frame name (omega arith) (omega arith) ∙ rw q (find-append frame (indexOf name ns) es more e (p .2))
 
--- what is found in an old frame was found
+-- what is found in an old frame was found before
 pub look-back : (es more : List Entry) (ns ms : List (List ℕ)) (frame : ℕ) (name : List ℕ) (e : Entry) → frame < framesOf es →
     ((i : ℕ) → i < length es → getD es i none .id < length ns) → ((i : ℕ) → i < length more → framesOf es ≤ getD more i none .frame) →
-    (indexOf name ms < length ns → indexOf name ns ≡ indexOf name ms) → lookupIn (es ++ more) ms frame name ≡ Listed.Found e → lookupIn es ns frame name ≡ Listed.Found e
+    (indexOf name ms < length ns → indexOf name ns ≡ indexOf name ms) →
+    lookupIn (es ++ more) ms frame name ≡ Listed.Found e → lookupIn es ns frame name ≡ Listed.Found e
 look-back es more ns ms frame name e f ids old same h =
     let id : ℕ = indexOf name ms in
-    let found : findEntry frame id es ≡ Listed.Found e =
+    let it : findEntry frame id es ≡ Listed.Found e =
     sym (find-back frame id es more (λ i l g d. omega (arith, old i l))) ∙ look-found (es ++ more) ms frame name e .0 h .2 in
-    let s : Stands es frame id e = find-sound frame id es e found in
-    let l : id < length ns = omega (arith, s .sameId, ap (λ c. c .id) (s .there), ids (s .place) (s .within)) in
-    look-entry es ns frame name f (omega (arith, same l)) ∙ rw (same l) found
+    let s : Stands es frame id e = find-sound frame id es e it in
+    let l : id < length ns = omega (arith, stands-id s, ids (s .place) (s .within)) in
+    look-entry es ns frame name f (omega (arith, same l)) ∙ rw (same l) it
 
 -- The calls: each answers of an image that opens, and passes on the opening's number of any other
 
@@ -280,11 +294,13 @@ module _ (img : List ℕ) (opens : verdict img ≡ 0) where
   unfolding chunkPlace
   opened-place frame name = ap placed (opened-lookup frame name)
 
-  pub opened-element : (frame : ℕ) (name : List ℕ) (k : ℕ) (e : Entry) → lookupIn (entriesOf img) (namesOf img) frame name ≡ Listed.Found e → element img frame name k ≡ elementIn img e k
+  pub opened-element : (frame : ℕ) (name : List ℕ) (k : ℕ) (e : Entry) →
+      lookupIn (entriesOf img) (namesOf img) frame name ≡ Listed.Found e → element img frame name k ≡ elementIn img e k
   unfolding element
   opened-element frame name k e h = rw (opened-lookup frame name, h, element)
 
-  pub opened-no-element : (frame : ℕ) (name : List ℕ) (k n : ℕ) → lookupIn (entriesOf img) (namesOf img) frame name ≡ Listed.Refused n → element img frame name k ≡ Element.Refused n
+  pub opened-no-element : (frame : ℕ) (name : List ℕ) (k n : ℕ) →
+      lookupIn (entriesOf img) (namesOf img) frame name ≡ Listed.Refused n → element img frame name k ≡ Element.Refused n
   unfolding element
   opened-no-element frame name k n h = rw (opened-lookup frame name, h, element)
 
