@@ -396,7 +396,7 @@ pub record Planned (v : View) (rs : List Row) (p : Plan) : Type 0 where
   pub twiceSegments : 2 * max 1 (v .layout .segments) ≤ p .segments
   pub twiceSlots : 2 * max 1 (v .layout .slots) ≤ p .slots
 
-chosen : (P : ℕ → Type 0) (moves : Bool) (new old : ℕ) → P new → (moves ≡ false → P old) → P (cond moves new old)
+pub chosen : (P : ℕ → Type 0) (moves : Bool) (new old : ℕ) → P new → (moves ≡ false → P old) → P (cond moves new old)
 chosen P true new old f g = f
 chosen P false new old f g = g refl
 
