@@ -3,7 +3,7 @@
 use Prim.Native.Nat.{ℕ, zero, suc, _+_, _*_, _-_, _≤_, _<_}
 use mathlib.Core.Path.{_≡_, refl, sym, _∙_, ap}
 use mathlib.Core.Bool.{Bool, true, false}
-use mathlib.Core.List.{List, [], _∷_, _++_, map, append-assoc, append-nil}
+use mathlib.Core.List.{List, [], _∷_, _++_, map, append-assoc, append-nil, append-cancel-left}
 use native.Mathlib.Nat.{zero-add, add-zero, suc-add}
 use native.Mathlib.Decide.{ℕ-discrete}
 use native.Mathlib.Omega.{arith}
@@ -34,6 +34,9 @@ pub record IsNames (x : List ℕ) (at n : ℕ) (ns : List (List ℕ)) : Type 0 w
   pub each : Text x at (flat ns)
   pub good : Each Named ns
   pub closed : length (flat ns) < n → getD x (at + length (flat ns)) 0 ≡ 0
+
+pub names-held : (x : List ℕ) (at n : ℕ) (ns : List (List ℕ)) → IsNames x at n ns → Holds x at n ns
+names-held x at n ns h = record { few = h .few; each = h .each; good = h .good }
 
 -- where names lie that are laid out from at on
 unfoldable pub partsOf : ℕ → List (List ℕ) → List Part
@@ -143,14 +146,27 @@ parts-after (b ∷ ns) x at n h t =
     ∙ ap (λ i. (record { start = at; size = length b } ∷ partsOf (at + length b + 1) ns) ++ partsAt x i i n)
     (let e : at + length b + 1 + length (flat ns) ≡ at + length (flat (b ∷ ns)) = omega (arith, flat-size b ns) in e)
 
+-- a name that no zero closes
+pub parts-open : (x : List ℕ) (start at n : ℕ) → ((k : ℕ) → k < n → getD x (at + k) 0 ≡ 0 → ⊥) → partsAt x start at n ≡ []
+parts-open x start at n h = ap (partsAt x start at) (sym (add-zero n)) ∙ parts-walk n x start at 0 h ∙ parts-none x start (at + n)
+
 -- Names and the walk
 
--- what stands there is what the walk lists
+-- names that stand there are listed, and they are all if nothing is listed behind them
+pub parts-all : (x : List ℕ) (at n : ℕ) (ns : List (List ℕ)) → Holds x at n ns →
+    partsAt x (at + length (flat ns)) (at + length (flat ns)) (n - length (flat ns)) ≡ [] → partsAt x at at n ≡ partsOf at ns
+parts-all x at n ns h e =
+    ap (partsAt x at at) (let q : n ≡ length (flat ns) + (n - length (flat ns)) = omega arith in q)
+    ∙ parts-after ns x at (n - length (flat ns)) (h .good) (h .each) ∙ ap (λ l. partsOf at ns ++ l) e ∙ append-nil (partsOf at ns)
+
+pub parts-rest : (x : List ℕ) (at n : ℕ) (ns : List (List ℕ)) → Holds x at n ns → partsAt x at at n ≡ partsOf at ns →
+    partsAt x (at + length (flat ns)) (at + length (flat ns)) (n - length (flat ns)) ≡ []
+parts-rest x at n ns h e = append-cancel-left (partsOf at ns) _ [] (
+    sym (parts-after ns x at (n - length (flat ns)) (h .good) (h .each))
+    ∙ ap (partsAt x at at) (let q : length (flat ns) + (n - length (flat ns)) ≡ n = omega arith in q) ∙ e ∙ sym (append-nil (partsOf at ns)))
+
 pub is-names : (x : List ℕ) (at n : ℕ) (ns : List (List ℕ)) → IsNames x at n ns → partsAt x at at n ≡ partsOf at ns
-is-names x at n ns h =
-    ap (partsAt x at at) (let e : n ≡ length (flat ns) + (n - length (flat ns)) = omega arith in e)
-    ∙ parts-after ns x at (n - length (flat ns)) (h .good) (h .each) ∙ ap (λ l. partsOf at ns ++ l) (go (n - length (flat ns)) (λ l. h .closed (omega arith)))
-    ∙ append-nil (partsOf at ns)
+is-names x at n ns h = parts-all x at n ns (names-held x at n ns h) (go (n - length (flat ns)) (λ l. h .closed (omega arith)))
   where
     go : (m : ℕ) → (0 < m → getD x (at + length (flat ns)) 0 ≡ 0) → partsAt x (at + length (flat ns)) (at + length (flat ns)) m ≡ []
     go zero z = parts-none x (at + length (flat ns)) (at + length (flat ns))
@@ -174,13 +190,21 @@ named-inside b [] x at h t =
     omega (arith, flat-size b [], ap length flat-none)
 named-inside b (c ∷ ns) x at h t = omega (arith, flat-size b (c ∷ ns), named-inside c ns x (at + length b + 1) (h .1) (text-name b (c ∷ ns) x at t .2))
 
-pub names-held : (ns : List (List ℕ)) (x : List ℕ) (at : ℕ) → Each Named ns → Text x at (flat ns) → map (bytesOf x) (partsOf at ns) ≡ ns
+pub names-back : (ns : List (List ℕ)) (x : List ℕ) (at : ℕ) → Each Named ns → Text x at (flat ns) → map (bytesOf x) (partsOf at ns) ≡ ns
 unfolding partsOf
-names-held [] x at h t = refl
-names-held (b ∷ ns) x at h t = names-read (b ∷ ns) x at (named-inside b ns x at h t) t
+names-back [] x at h t = refl
+names-back (b ∷ ns) x at h t = names-read (b ∷ ns) x at (named-inside b ns x at h t) t
 
 pub names-is : (x : List ℕ) (at n : ℕ) (ns : List (List ℕ)) → IsNames x at n ns → namesAt x at n ≡ ns
-names-is x at n ns h = ap (map (bytesOf x)) (is-names x at n ns h) ∙ names-held ns x at (h .good) (h .each)
+names-is x at n ns h = ap (map (bytesOf x)) (is-names x at n ns h) ∙ names-back ns x at (h .good) (h .each)
+
+-- the same where a name follows that no zero closes
+pub names-open : (x : List ℕ) (at n : ℕ) (ns : List (List ℕ)) → Holds x at n ns →
+    ((k : ℕ) → length (flat ns) ≤ k → k < n → getD x (at + k) 0 ≡ 0 → ⊥) → namesAt x at n ≡ ns
+names-open x at n ns h f =
+    ap (map (bytesOf x)) (parts-all x at n ns h (parts-open x (at + length (flat ns)) (at + length (flat ns)) (n - length (flat ns))
+      (λ k l z. f (length (flat ns) + k) (omega arith) (omega arith) (ap (λ i. getD x i 0) (let e : at + (length (flat ns) + k) ≡ at + length (flat ns) + k = omega arith in e) ∙ z))))
+    ∙ names-back ns x at (h .good) (h .each)
 
 -- What any image lists
 
@@ -262,7 +286,7 @@ found-names : (x : List ℕ) (a : ℕ) (y : List ℕ) (b n : ℕ) → Same y b x
 found-names x a y b n s =
     let h : Holds x a (0 + n) (found x a n .names) = found x a n .holds in
     ap (map (bytesOf y)) (found-parts x a y b n s)
-    ∙ names-held (found x a n .names) y b (h .good) (text-same x a y b (flat (found x a n .names)) (λ k l. s k (omega arith)) (h .each))
+    ∙ names-back (found x a n .names) y b (h .good) (text-same x a y b (flat (found x a n .names)) (λ k l. s k (omega arith)) (h .each))
 
 -- the listed names stand in the block, at the listed places
 pub names-hold : (x : List ℕ) (at n : ℕ) → Holds x at n (namesAt x at n)
@@ -281,6 +305,24 @@ parts-same x a y b n s = parts-listed y b n ∙ ap (partsOf b) (names-same x a y
 -- if the block ends behind them, or a zero follows, they are the list
 pub names-are : (x : List ℕ) (at n : ℕ) → (length (flat (namesAt x at n)) < n → getD x (at + length (flat (namesAt x at n))) 0 ≡ 0) → IsNames x at n (namesAt x at n)
 names-are x at n z = let h : Holds x at n (namesAt x at n) = names-hold x at n in record { few = h .few; each = h .each; good = h .good; closed = z }
+
+-- otherwise a name follows that no zero closes
+no-part : (n : ℕ) (x : List ℕ) (start at : ℕ) → start ≤ at → (start ≡ at → getD x at 0 ≡ 0 → ⊥) → partsAt x start at n ≡ [] →
+    (k : ℕ) → k < n → getD x (at + k) 0 ≡ 0 → ⊥
+no-part zero x start at b f e k l z = omega arith
+no-part (suc n) x start at b f e k l z = go (no-part n x start (at + 1) (omega arith) (λ q. absurd (omega arith))) (ℕ-discrete (getD x at 0) 0) k l z
+  where
+    go : (partsAt x start (at + 1) n ≡ [] → (k : ℕ) → k < n → getD x (at + 1 + k) 0 ≡ 0 → ⊥) → Dec (getD x at 0 ≡ 0) → (k : ℕ) → k < suc n → getD x (at + k) 0 ≡ 0 → ⊥
+    go g (yes q) k l z = omega (arith, ap length (sym (parts-close x start at n (λ d. f d q) q) ∙ e))
+    go g (no q) zero l z = q (ap (λ i. getD x i 0) (sym (add-zero at)) ∙ z)
+    go g (no q) (suc k) l z = g (sym (parts-on x start at n q) ∙ e) k (omega arith) (ap (λ i. getD x i 0) (let d : at + 1 + k ≡ at + suc k = omega arith in d) ∙ z)
+
+pub names-end : (x : List ℕ) (at n : ℕ) → (getD x (at + length (flat (namesAt x at n))) 0 ≡ 0 → ⊥) →
+    (k : ℕ) → length (flat (namesAt x at n)) ≤ k → k < n → getD x (at + k) 0 ≡ 0 → ⊥
+names-end x at n f k l m z =
+    let s : ℕ = length (flat (namesAt x at n)) in
+    no-part (n - s) x (at + s) (at + s) (omega arith) (λ e. f) (parts-rest x at n (namesAt x at n) (names-hold x at n) (parts-listed x at n)) (k - s) (omega arith)
+      (ap (λ i. getD x i 0) (let e : at + s + (k - s) ≡ at + k = omega arith in e) ∙ z)
 
 -- The places of the listed names
 
