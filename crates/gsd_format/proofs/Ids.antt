@@ -131,7 +131,7 @@ index-append b ns ms h =
     index-is b (ns ++ ms) (indexOf b ns) (omega (arith, length-append ns ms)) (List·getD-append ns ms [] (indexOf b ns) h ∙ index-at b ns h)
     (λ k l e. index-first b ns k l (sym (List·getD-append ns ms [] k (omega arith)) ∙ e))
 
--- a name that is not is found among the new ones
+-- a name that is not listed is found among the new ones
 pub index-behind : (b : List ℕ) (ns ms : List (List ℕ)) → Lacks b ns → indexOf b (ns ++ ms) ≡ length ns + indexOf b ms
 index-behind b [] ms h = sym (zero-add (indexOf b ms))
 index-behind b (n ∷ ns) ms h =
