@@ -5,3 +5,6 @@ pub mod Bytes
 pub mod Texts
 pub mod Ids
 pub mod Names
+pub mod Entries
+pub mod Verdict
+pub mod Lookup
