@@ -9,7 +9,7 @@ use native.Mathlib.Omega.{arith}
 use lib.ListN.{length, getD, take, length-append, length-take, List·getD-append}
 use lib.Seq.{getD-take}
 use lib.Dec.{ltb}
-use borrow.Author.Tests.{ltb-true, ltb-false, lt-ltb, le-ltb}
+use borrow.Author.Tests.{ltb-false, le-ltb}
 use Rattle.gsd_format.specs.Bytes.{same}
 use Rattle.gsd_format.specs.Names.{indexOf}
 use Rattle.gsd_format.specs.Opening.{twins}
@@ -131,7 +131,7 @@ index-append b ns ms h =
     index-is b (ns ++ ms) (indexOf b ns) (omega (arith, length-append ns ms)) (List·getD-append ns ms [] (indexOf b ns) h ∙ index-at b ns h)
     (λ k l e. index-first b ns k l (sym (List·getD-append ns ms [] k (omega arith)) ∙ e))
 
--- a name that is not is found among the new ones
+-- a name that is not listed is found among the new ones
 pub index-behind : (b : List ℕ) (ns ms : List (List ℕ)) → Lacks b ns → indexOf b (ns ++ ms) ≡ length ns + indexOf b ms
 index-behind b [] ms h = sym (zero-add (indexOf b ms))
 index-behind b (n ∷ ns) ms h =
@@ -165,9 +165,10 @@ distinct-places (n ∷ ns) h (suc i) (suc j) l m e = distinct-places ns (h .1) i
 
 pub places-distinct : (ns : List (List ℕ)) → ((i j : ℕ) → i < j → j < length ns → getD ns i [] ≡ getD ns j [] → ⊥) → Distinct ns
 places-distinct [] f = tt
-places-distinct (n ∷ ns) f =
-    (each-lacks n ns (at-each (λ m. m ≡ n → ⊥) ns [] (λ j l e. f 0 (suc j) (omega arith) (omega arith) (sym e)))
-    , places-distinct ns (λ i j l m. f (suc i) (suc j) (omega arith) (omega arith)))
+places-distinct (n ∷ ns) f = (
+  each-lacks n ns (at-each (λ m. m ≡ n → ⊥) ns [] (λ j l e. f 0 (suc j) (omega arith) (omega arith) (sym e))),
+  places-distinct ns (λ i j l m. f (suc i) (suc j) (omega arith) (omega arith)),
+)
 
 -- the i-th name has id i
 pub distinct-index : (ns : List (List ℕ)) → Distinct ns → (i : ℕ) → i < length ns → indexOf (getD ns i []) ns ≡ i
@@ -175,9 +176,10 @@ distinct-index ns h i l = index-is (getD ns i []) ns i l refl (λ k m. distinct-
 
 pub distinct-append : (ns fs : List (List ℕ)) → Distinct ns → Distinct fs → Each (λ f. Lacks f ns) fs → Distinct (ns ++ fs)
 distinct-append [] fs h g f = g
-distinct-append (n ∷ ns) fs h g f =
-    (lacks-append n ns fs (h .0) (each-lacks n fs (each-so (λ b. Lacks b (n ∷ ns)) (λ b. b ≡ n → ⊥) (λ b l. lacks-cons b n ns l .0) fs f))
-    , distinct-append ns fs (h .1) g (each-so (λ b. Lacks b (n ∷ ns)) (λ b. Lacks b ns) (λ b l. lacks-cons b n ns l .1) fs f))
+distinct-append (n ∷ ns) fs h g f = (
+  lacks-append n ns fs (h .0) (each-lacks n fs (each-so (λ b. Lacks b (n ∷ ns)) (λ b. b ≡ n → ⊥) (λ b l. lacks-cons b n ns l .0) fs f)),
+  distinct-append ns fs (h .1) g (each-so (λ b. Lacks b (n ∷ ns)) (λ b. Lacks b ns) (λ b l. lacks-cons b n ns l .1) fs f),
+)
 
 pub distinct-take : (k : ℕ) (ns : List (List ℕ)) → Distinct ns → Distinct (take k ns)
 distinct-take k ns h = places-distinct (take k ns) (λ i j l m e.

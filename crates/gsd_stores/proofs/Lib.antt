@@ -1,4 +1,7 @@
 -- The theorems about appends and what leads to them.
+pub mod Each
+pub mod Stores
+pub mod Phases
 pub mod Table
 pub mod Sheet
 pub mod Plan
