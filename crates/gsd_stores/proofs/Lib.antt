@@ -8,3 +8,6 @@ pub mod View
 pub mod Good
 pub mod Shown
 pub mod Table
+pub mod Sheet
+pub mod Plan
+pub mod Valid
