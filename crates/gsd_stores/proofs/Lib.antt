@@ -7,6 +7,7 @@ pub mod Runs
 pub mod View
 pub mod Good
 pub mod Shown
+pub mod Clear
 pub mod Table
 pub mod Sheet
 pub mod Plan
