@@ -161,14 +161,15 @@ pub fn put_magic(s: &mut [u8])
     put_text(s, 0, &MAGIC);
 }
 
-const SIZES: [u64; 11] = [0, 1, 2, 4, 8, 1, 2, 4, 8, 4, 8];
-
 // The bytes of one element of a type, 0 for an unknown type.
 pub fn size_of(kind: u8) -> u64
     ensures { λ r. ⌜ (r ≡ sizeOf kind) × (r ≤ 8) ⌝ }
 {
-    if 10 < kind {
-        return 0;
+    match kind {
+        1 | 5 => 1,
+        2 | 6 => 2,
+        3 | 7 | 9 => 4,
+        4 | 8 | 10 => 8,
+        _ => 0,
     }
-    SIZES[kind as usize]
 }
