@@ -8,3 +8,4 @@ pub mod Names
 pub mod Entries
 pub mod Verdict
 pub mod Lookup
+pub mod Types
