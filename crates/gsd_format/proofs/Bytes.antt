@@ -131,31 +131,7 @@ zero-le (suc n) x a h =
     let f : le n x (a + 1) ≡ 0 = zero-le n x (a + 1) (λ k l. ap (λ i. getD x i 0) (let e : a + 1 + k ≡ a + suc k = omega arith in e) ∙ h (suc k) (omega arith)) in
     omega arith
 
-pub le-bound : (n : ℕ) (s : List ℕ) (i : ℕ) → Octets s → le n s i < 256 ^ n
-unfolding le
-le-bound zero s i h = omega arith
-le-bound (suc n) s i h = omega (arith, pow-suc 256 n, le-bound n s (i + 1) h, h i)
-
-pub leBytes-length : (n w : ℕ) → length (leBytes n w) ≡ n
-unfolding leBytes
-leBytes-length zero w = refl
-leBytes-length (suc n) w = ap suc (leBytes-length n (w / 256))
-
--- a number reads back
-pub le-back : (n w : ℕ) → w < 256 ^ n → le n (leBytes n w) 0 ≡ w
-unfolding le leBytes
-le-back zero w h = omega arith
-le-back (suc n) w h =
-    let e : le n (w % 256 ∷ leBytes n (w / 256)) 1 ≡ le n (leBytes n (w / 256)) 0 = le-same n (w % 256 ∷ leBytes n (w / 256)) 1 (leBytes n (w / 256)) 0 (λ k l. rw (add-one-left k)) in
-    omega (arith, le-back n (w / 256) (omega (arith, pow-suc 256 n)))
-  where
-    add-one-left : (k : ℕ) → 1 + k ≡ suc (0 + k)
-    add-one-left k = omega arith
-
--- a number stands where its bytes stand
-pub le-text : (n w : ℕ) (x : List ℕ) (at : ℕ) → w < 256 ^ n → Text x at (leBytes n w) → le n x at ≡ w
-le-text n w x at h t = le-same n x at (leBytes n w) 0 (λ k l. t k (rw leBytes-length l) ∙ ap (λ i. getD (leBytes n w) i 0) (omega arith)) ∙ le-back n w h
-
+-- numbers of four and eight bytes by their halves
 pub le-four : (s : List ℕ) (i : ℕ) → le 4 s i ≡ le 2 s i + 65536 * le 2 s (i + 2)
 unfolding le
 le-four s i = simp add-assoc (omega arith)

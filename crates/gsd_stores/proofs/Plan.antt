@@ -344,6 +344,7 @@ new-differing (r ∷ rs) pos frame all h d =
   where
     next : ℕ
     next = pos + length (padded (r .body))
+
     other : (i : ℕ) → i < length rs → indexOf (r .name) all ≡ getD (newEntries next frame all rs) i none .id → ⊥
     other i l e =
         let same : indexOf (r .name) all ≡ indexOf (getD rs i noRow .name) all = rw (new-at rs next frame all i l) at e in
@@ -368,9 +369,11 @@ sorted-rising (e ∷ es) h = insert-rising e (sorted es) 0 (omega arith) (sorted
 pub rising-ordered : (es : List Entry) (frame least top : ℕ) → frame ≤ top → Each (λ e. e .frame ≡ frame) es → Rising least es → Ordered (65536 * frame + least) top es
 unfolding Rising
 rising-ordered [] frame least top l f h = tt
-rising-ordered (e ∷ es) frame least top l f h =
-    (omega (arith, f .0, h .0), omega (arith, f .0),
-    ordered-weaker es (65536 * frame + (e .id + 1)) (frame + 1) (key e + 1) (e .frame + 1) (omega (arith, f .0)) (omega (arith, f .0)) (rising-ordered es frame (e .id + 1) (frame + 1) (omega arith) (f .1) (h .1)))
+rising-ordered (e ∷ es) frame least top l f h = (
+  omega (arith, f .0, h .0),
+  omega (arith, f .0),
+  ordered-weaker es (65536 * frame + (e .id + 1)) (frame + 1) (key e + 1) (e .frame + 1) (omega (arith, f .0)) (omega (arith, f .0)) (rising-ordered es frame (e .id + 1) (frame + 1) (omega arith) (f .1) (h .1)),
+)
 
 -- The plan
 

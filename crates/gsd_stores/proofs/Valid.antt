@@ -150,7 +150,7 @@ module _ (v : View) (rs : List Row) (p : Plan) (plan : Planned v rs p) (fits : f
     namelistLow = chosen (λ k. 256 ≤ k) (p .namesMove) (dataEnd p) (v .layout .namelist) (omega (arith, plan .room .header)) (λ e. b .namelistLow);
     namelistHigh = block-high (p .namesMove) 64 (dataEnd p) (p .segments) (v .layout .namelist) (v .layout .segments) (v .layout .len) (omega (arith, positions p)) (b .namelistHigh);
     apart = blocks-apart (p .indexMoves) (p .namesMove) (v .layout .index) (v .layout .slots) (p .slots) (v .layout .namelist) (v .layout .segments) (p .segments) (p .start) (dataEnd p)
-      (plan .room .index) (plan .room .names) (omega arith) (b .apart);
+        (plan .room .index) (plan .room .names) (omega arith) (b .apart);
   }
 
   -- entries that ended before the data, and entries of the data, are sound with the blocks as they then lie
@@ -170,13 +170,13 @@ module _ (v : View) (rs : List Row) (p : Plan) (plan : Planned v rs p) (fits : f
   pub old-after : v .layout .len ≤ greatestLength → AllSound (v .layout) (length (v .names)) (v .entries) → AllSound (layoutAfter v p) (length (v .names ++ p .fresh)) (v .entries)
   old-after small s i l =
       sound-after (length (v .names ++ p .fresh)) (getD (v .entries) i none) (s i l .low) small (s i l .typed) (omega (arith, s i l .named, length-append (v .names) (p .fresh)))
-        (omega (arith, plan .room .chunks i l)) (s i l .offIndex) (s i l .offNames)
+      (omega (arith, plan .room .chunks i l)) (s i l .offIndex) (s i l .offNames)
 
   pub new-after : v .layout .len ≤ greatestLength → ((i : ℕ) → i < length rs → RowOk (getD rs i noRow)) → AllSound (layoutAfter v p) (length (v .names ++ p .fresh)) (p .entries)
   new-after small ok j l =
       let s : NewSound v p (getD (p .entries) j none) = new-sound v rs p plan ok j l in
       sound-after (length (v .names ++ p .fresh)) (getD (p .entries) j none) (s .low) small (s .known) (s .id) (s .high)
-        (λ q a b c d. omega (arith, plan .room .index)) (λ q a b c d. omega (arith, plan .room .names))
+      (λ q a b c d. omega (arith, plan .room .index)) (λ q a b c d. omega (arith, plan .room .names))
 
 -- An accepted append is ready to be stored
 
@@ -242,10 +242,10 @@ ready x rs ok =
       new = new;
       exact = new-fits v rs p plan (ok .rows) frames (omega (arith, positions p, ok .fits)) (omega arith);
       ordered = ordered-append (entriesOf x) (p .entries) 0 0 (opens .ordered) (sound-ids (entriesOf x) (layoutOf x) (length (namesOf x)) (omega (arith, length-append (namesOf x) (p .fresh))) (opens .sound)) (omega arith)
-        (new-ordered v rs p plan (ok .rows) (ok .distinct));
+          (new-ordered v rs p plan (ok .rows) (ok .distinct));
       frames = frames-grown 0 0 (entriesOf x) (p .entries) some ∙ frames-last 0 (p .entries) (length (p .entries) - 1) (omega arith)
-        ∙ ap (λ f. f + 1) (new (length (p .entries) - 1) (omega arith) .frame);
+          ∙ ap (λ f. f + 1) (new (length (p .entries) - 1) (omega arith) .frame);
       blocks = blocks-after v rs p plan (ok .fits) (opens .blocks);
       sound = each-at (Sound (layoutAfter v p) (length (namesOf x ++ p .fresh))) (entriesOf x ++ p .entries) none (each-append _ (entriesOf x) (p .entries)
-        (at-each _ (entriesOf x) none (old-after v rs p plan (ok .fits) small (opens .sound))) (at-each _ (p .entries) none (new-after v rs p plan (ok .fits) small (ok .rows))));
+          (at-each _ (entriesOf x) none (old-after v rs p plan (ok .fits) small (opens .sound))) (at-each _ (p .entries) none (new-after v rs p plan (ok .fits) small (ok .rows))));
     }
