@@ -8,6 +8,7 @@ pub mod View
 pub mod Good
 pub mod Shown
 pub mod Clear
+pub mod Complete
 pub mod Table
 pub mod Sheet
 pub mod Plan

@@ -6,8 +6,6 @@ use mathlib.Core.List.{List, _++_}
 use native.Mathlib.Omega.{arith}
 use lib.ListN.{length, getD, length-append}
 use Rattle.gsd_format.specs.declared.Entry.{Entry}
-use Rattle.gsd_format.specs.declared.Layout.{Layout}
-use Rattle.gsd_format.specs.declared.Listed.{Listed}
 use Rattle.gsd_format.specs.Bytes.{part}
 use Rattle.gsd_format.specs.Types.{chunkSize}
 use Rattle.gsd_format.specs.Header.{layoutOf}
