@@ -5,4 +5,5 @@ pub mod Phases
 pub mod View
 pub mod Good
 pub mod Clear
+pub mod NewEntries
 pub mod Table
