@@ -6,4 +6,5 @@ pub mod View
 pub mod Good
 pub mod Clear
 pub mod NewEntries
+pub mod Whole
 pub mod Table
