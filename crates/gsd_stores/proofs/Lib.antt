@@ -9,6 +9,8 @@ pub mod Good
 pub mod Shown
 pub mod Clear
 pub mod Complete
+pub mod NewEntries
+pub mod Whole
 pub mod Table
 pub mod Sheet
 pub mod Plan

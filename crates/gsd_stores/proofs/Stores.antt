@@ -1,6 +1,7 @@
 -- Laws of stores and of runs of words: what stands at each place after them, and where they lie.
 use Prim.Native.Nat.{ℕ, zero, suc, _+_, _*_, _-_, _/_, _%_, _≤_, _<_}
 use mathlib.Core.Path.{_≡_, refl, sym, _∙_, ap}
+use mathlib.Core.Logic.{_⊎_, inl, inr}
 use mathlib.Core.List.{List, [], _∷_, _++_, List·Memᴰ as Member, List·Memᴰ·head as here, List·Memᴰ·tail as there, Memᴰ·cast as member-cast}
 use native.Mathlib.Nat.{add-zero, zero-add, suc-add}
 use native.Mathlib.Decide.{decLt}
@@ -232,13 +233,21 @@ pub record Over (img t : List ℕ) (base lo hi : ℕ) (x : List ℕ) : Type 0 wh
   pub below : (p : ℕ) → p < lo → getD x p 0 ≡ getD img p 0
   pub above : (p : ℕ) → hi ≤ p → getD x p 0 ≡ getD img p 0
 
-pub over-off : {img t : List ℕ} {base lo hi : ℕ} {x : List ℕ} → Over img t base lo hi x → (p : ℕ) → (lo ≤ p → p < hi → ⊥) → getD x p 0 ≡ getD img p 0
-over-off {img} {t} {base} {lo} {hi} {x} o p h = go (decLt p lo) (decLt p hi)
+-- p lies from lo up to hi, or it does not
+pub between : (lo hi p : ℕ) → ((lo ≤ p) × (p < hi)) ⊎ (lo ≤ p → p < hi → ⊥)
+between lo hi p = go (decLt p lo) (decLt p hi)
   where
-    go : Dec (p < lo) → Dec (p < hi) → getD x p 0 ≡ getD img p 0
-    go (yes a) b = o .below p a
-    go (no a) (yes b) = absurd (h (omega arith) b)
-    go (no a) (no b) = o .above p (omega arith)
+    go : Dec (p < lo) → Dec (p < hi) → ((lo ≤ p) × (p < hi)) ⊎ (lo ≤ p → p < hi → ⊥)
+    go (yes a) b = inr (λ c d. omega arith)
+    go (no a) (yes b) = inl (omega arith, b)
+    go (no a) (no b) = inr (λ c d. omega arith)
+
+-- a run changes nothing outside
+pub over-off : {img t : List ℕ} {base lo hi : ℕ} {x : List ℕ} → Over img t base lo hi x → (p : ℕ) → (lo ≤ p → p < hi → ⊥) → getD x p 0 ≡ getD img p 0
+over-off {lo} {hi} o p h = elim (decLt p lo) [
+  | yes a ↦ o .below p a
+  | no a ↦ o .above p (elim (decLt p hi) [ yes b ↦ absurd (h (omega arith) b) | no b ↦ omega arith ])
+]
 
 pub eight-at : (t : List ℕ) (i k : ℕ) → k < 8 → getD (eightOf t i) k 0 ≡ getD t (i + k) 0
 eight-at t i zero h = ap (λ j. getD t j 0) (sym (add-zero i))

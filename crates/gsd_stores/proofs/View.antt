@@ -20,7 +20,7 @@ use Rattle.gsd_format.proofs.Entries.{IsEntries, is-entries, entries-kept}
 use Rattle.gsd_format.proofs.Verdict.{Front, Blocks, AllSound, layout-same, front-same}
 use Rattle.gsd_stores.specs.Stores.{words, up}
 use Rattle.gsd_stores.specs.View.{View, viewOf, indexEnd, namelistEnd, entriesEnd, namesEnd}
-use Rattle.gsd_stores.proofs.Stores.{Over}
+use Rattle.gsd_stores.proofs.Stores.{Over, between, over-off}
 use Rattle.gsd_stores.proofs.Phases.{Phase, phase-up}
 
 -- v with the name block or the index block elsewhere, with other names, with more entries
@@ -165,12 +165,13 @@ keeps-behind {pos} h r l f = record { long = l; byte = λ p. elim (decLt p pos) 
 -- a run that writes what stands there already, or at free places
 pub keeps-over : {v : View} {x t : List ℕ} {base lo hi : ℕ} {y : List ℕ} → Over x t base lo hi y →
     ((p : ℕ) → lo ≤ p → p < hi → (getD t (p - base) 0 ≡ getD x p 0) ⊎ Free v p) → Keeps v x y
-keeps-over {v} {x} {t} {base} {lo} {hi} {y} o f = record { long = o .long; byte = λ p. go p (decLt p lo) (decLt p hi) }
-  where
-    go : (p : ℕ) → Dec (p < lo) → Dec (p < hi) → (getD y p 0 ≡ getD x p 0) ⊎ Free v p
-    go p (yes a) b = inl (o .below p a)
-    go p (no a) (yes b) = elim (f p (omega arith) b) [ inl e ↦ inl (o .inside p (omega arith) b ∙ e) | inr g ↦ inr g ]
-    go p (no a) (no b) = inl (o .above p (omega arith))
+keeps-over {lo} {hi} o f = record {
+  long = o .long;
+  byte = λ p. elim (between lo hi p) [
+    | inl a ↦ elim (f p (a .0) (a .1)) [ inl e ↦ inl (o .inside p (a .0) (a .1) ∙ e) | inr g ↦ inr g ]
+    | inr a ↦ inl (over-off o p a)
+  ];
+}
 
 -- The stages of an append that began at x₀
 
