@@ -11,6 +11,7 @@ pub mod Clear
 pub mod Complete
 pub mod NewEntries
 pub mod Whole
+pub mod Moments
 pub mod Table
 pub mod Sheet
 pub mod Plan
