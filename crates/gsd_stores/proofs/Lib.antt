@@ -12,6 +12,8 @@ pub mod Complete
 pub mod NewEntries
 pub mod Whole
 pub mod Moments
+pub mod Limits
+pub mod Places
 pub mod Table
 pub mod Sheet
 pub mod Plan

@@ -29,7 +29,7 @@ use Rattle.gsd_stores.proofs.Shown.{Legal, shown-opens, shown-entries, 
 use Rattle.gsd_stores.proofs.Complete.{frame-complete}
 use Rattle.gsd_stores.proofs.Runs.{Unchanged, Grown, Accepted}
 
-stores-are : (x s : List ℕ) → appendTest x s ≡ 0 → storesFor x s ≡ stepsOf x (viewOf x) (planOf (viewOf x) (rowsOf s))
+pub stores-are : (x s : List ℕ) → appendTest x s ≡ 0 → storesFor x s ≡ stepsOf x (viewOf x) (planOf (viewOf x) (rowsOf s))
 unfolding storesFor storeList
 stores-are x s h = rw (h, storesFor)
 
