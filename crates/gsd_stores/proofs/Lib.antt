@@ -2,4 +2,6 @@
 pub mod Each
 pub mod Stores
 pub mod Phases
+pub mod View
+pub mod Good
 pub mod Table

@@ -232,6 +232,14 @@ pub record Over (img t : List ℕ) (base lo hi : ℕ) (x : List ℕ) : Type 0 wh
   pub below : (p : ℕ) → p < lo → getD x p 0 ≡ getD img p 0
   pub above : (p : ℕ) → hi ≤ p → getD x p 0 ≡ getD img p 0
 
+pub over-off : {img t : List ℕ} {base lo hi : ℕ} {x : List ℕ} → Over img t base lo hi x → (p : ℕ) → (lo ≤ p → p < hi → ⊥) → getD x p 0 ≡ getD img p 0
+over-off {img} {t} {base} {lo} {hi} {x} o p h = go (decLt p lo) (decLt p hi)
+  where
+    go : Dec (p < lo) → Dec (p < hi) → getD x p 0 ≡ getD img p 0
+    go (yes a) b = o .below p a
+    go (no a) (yes b) = absurd (h (omega arith) b)
+    go (no a) (no b) = o .above p (omega arith)
+
 pub eight-at : (t : List ℕ) (i k : ℕ) → k < 8 → getD (eightOf t i) k 0 ≡ getD t (i + k) 0
 eight-at t i zero h = ap (λ j. getD t j 0) (sym (add-zero i))
 eight-at t i (suc zero) h = refl
