@@ -51,6 +51,21 @@ unfolding le
 le-same zero x a y b h = refl
 le-same (suc n) x a y b h = let e : le n x (a + 1) ≡ le n y (b + 1) = le-same n x (a + 1) y (b + 1) (same-tail x a y b n h) in omega (arith, same-head x a y b n h)
 
+-- a number is 0 exactly when its bytes are
+pub le-zero : (n : ℕ) (x : List ℕ) (a : ℕ) → le n x a ≡ 0 → (k : ℕ) → k < n → getD x (a + k) 0 ≡ 0
+unfolding le
+le-zero zero x a h k l = omega arith
+le-zero (suc n) x a h zero l = rw add-zero (omega arith)
+le-zero (suc n) x a h (suc k) l = ap (λ i. getD x i 0) (let e : a + suc k ≡ a + 1 + k = omega arith in e) ∙ le-zero n x (a + 1) (omega arith) k (omega arith)
+
+pub zero-le : (n : ℕ) (x : List ℕ) (a : ℕ) → ((k : ℕ) → k < n → getD x (a + k) 0 ≡ 0) → le n x a ≡ 0
+unfolding le
+zero-le zero x a h = refl
+zero-le (suc n) x a h =
+    let e : getD x a 0 ≡ 0 = ap (λ i. getD x i 0) (sym (add-zero a)) ∙ h 0 (omega arith) in
+    let f : le n x (a + 1) ≡ 0 = zero-le n x (a + 1) (λ k l. ap (λ i. getD x i 0) (let e : a + 1 + k ≡ a + suc k = omega arith in e) ∙ h (suc k) (omega arith)) in
+    omega arith
+
 pub le-bound : (n : ℕ) (s : List ℕ) (i : ℕ) → Octets s → le n s i < 256 ^ n
 unfolding le
 le-bound zero s i h = omega arith

@@ -4,4 +4,5 @@ pub mod Stores
 pub mod Phases
 pub mod View
 pub mod Good
+pub mod Clear
 pub mod Table
