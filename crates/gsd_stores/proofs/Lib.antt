@@ -3,6 +3,7 @@ pub mod Each
 pub mod Stores
 pub mod Phases
 pub mod View
+pub mod Blocks
 pub mod Good
 pub mod Clear
 pub mod Table
