@@ -6,4 +6,5 @@ pub mod View
 pub mod Blocks
 pub mod Good
 pub mod Clear
+pub mod Move
 pub mod Table
