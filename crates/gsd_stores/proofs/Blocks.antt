@@ -17,7 +17,7 @@ use Rattle.gsd_format.proofs.Names.{Named}
 use Rattle.gsd_format.proofs.Entries.{entries-kept}
 use Rattle.gsd_format.proofs.Verdict.{Sound, front-same}
 use Rattle.gsd_stores.specs.View.{View, namelistEnd}
-use Rattle.gsd_stores.proofs.View.{Is, is-long, Room, Stage}
+use Rattle.gsd_stores.proofs.View.{Is, is-long, Stage}
 
 -- A text and zeros
 
@@ -110,10 +110,11 @@ pub record Relaid (v : View) (x y : List ℕ) (l : Layout) (ns : List (List ℕ)
   pub good : Each Named ns
   pub more : length (v .names) ≤ length ns
 
-pub restage : {x₀ : List ℕ} {v : View} {d : ℕ} {t : List ℕ} {pos : ℕ} {x y : List ℕ} {l : Layout} {ns : List (List ℕ)} →
-    Room v d (length t) pos → Relaid v x y l ns → Stage x₀ v d t x → Stage x₀ (record { layout = l; entries = v .entries; names = ns }) d t y
+pub restage : {x₀ : List ℕ} {v : View} {d : ℕ} {t : List ℕ} {x y : List ℕ} {l : Layout} {ns : List (List ℕ)} → headerSize ≤ d →
+    Apart d (length t) (v .layout .namelist) (64 * v .layout .segments) → Relaid v x y l ns → Stage x₀ v d t x →
+    Stage x₀ (record { layout = l; entries = v .entries; names = ns }) d t y
 unfolding layoutOf
-restage {x₀} {v} {d} {t} {pos} {x} {y} {l} {ns} room r s = record {
+restage {x₀} {v} {d} {t} {x} {y} {l} {ns} low off r s = record {
   base = record {
     is = record {
       layout = r .layout;
@@ -145,7 +146,7 @@ restage {x₀} {v} {d} {t} {pos} {x} {y} {l} {ns} room r s = record {
   };
   index = clear;
   names = namesClear;
-  body = λ k a. r .outside (d + k) (λ c e. omega arith) (λ c e. room .offNames (d + k) (omega arith) (omega arith) c e) ∙ s .body k a;
+  body = λ k a. r .outside (d + k) (λ c e. omega arith) (off (d + k) (omega arith) (omega arith)) ∙ s .body k a;
 }
   where
     long : l .len ≡ v .layout .len

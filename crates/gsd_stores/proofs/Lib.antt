@@ -7,4 +7,5 @@ pub mod Blocks
 pub mod Good
 pub mod Clear
 pub mod Move
+pub mod NewNames
 pub mod Table

@@ -1,17 +1,17 @@
 -- Steps 3 and 5: a block moves. Its new place is filled while the header still shows the old one, then the header shows the new place
 -- with the old count, then with the new one. Both blocks move by one law.
-use Prim.Native.Nat.{ℕ, _+_, _*_, _-_, _^_, _≤_, _<_}
-use mathlib.Core.Path.{_≡_, refl, sym, _∙_, ap}
+use Prim.Native.Nat.{ℕ, _+_, _*_, _^_, _≤_, _<_}
+use mathlib.Core.Path.{_≡_, refl, _∙_, ap}
 use mathlib.Core.Bool.{Bool, true, false, cond}
 use mathlib.Core.Logic.{inr}
-use mathlib.Core.List.{List, []}
+use mathlib.Core.List.{List}
 use native.Mathlib.Omega.{arith}
-use lib.ListN.{length, getD, List·getD-eq-default}
+use lib.ListN.{length, getD}
 use Rattle.gsd_format.specs.declared.Layout.{Layout}
 use Rattle.gsd_format.specs.Bytes.{le, leBytes, part}
 use Rattle.gsd_format.specs.Header.{layoutOf}
 use Rattle.gsd_format.specs.Names.{flat}
-use Rattle.gsd_format.proofs.Bytes.{Same, le-same, le-text, leBytes-length, part-same}
+use Rattle.gsd_format.proofs.Bytes.{le-same, le-text, leBytes-length, part-same}
 use Rattle.gsd_stores.specs.Stores.{words, up}
 use Rattle.gsd_stores.specs.View.{View, namelistEnd}
 use Rattle.gsd_stores.specs.Steps.{moved}
@@ -168,7 +168,7 @@ module _ {x₀ : List ℕ} {v : View} {d : ℕ} {t : List ℕ} (k : Block) (b n 
       let stage : Stage x₀ v d t (p .old) = p .copied .stage in
       let new : Housed v (p .old) b (unitOf k * s) (listIn k (p .old) v)
       = housed-moved k b s n stage room low high fits (rw (lists (p .old) stage) (p .copied .filled)) in
-      restage room (relaid k stage room new (p .headed)) stage
+      restage (room .low) (room .offNames) (relaid k stage room new (p .headed)) stage
 
   -- before each store of the new block, and before the two words of the header
   pub move-block : {W : List ℕ → Type 0} → Shows x₀ W v → Shows x₀ W (withBlock k v b (countIn k (v .layout))) →
