@@ -5,6 +5,7 @@ pub mod Phases
 pub mod Keep
 pub mod Runs
 pub mod View
+pub mod Blocks
 pub mod Good
 pub mod Shown
 pub mod Clear
@@ -14,6 +15,8 @@ pub mod Whole
 pub mod Moments
 pub mod Limits
 pub mod Places
+pub mod Move
+pub mod NewNames
 pub mod Table
 pub mod Sheet
 pub mod Plan
