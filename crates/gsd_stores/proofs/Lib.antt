@@ -2,8 +2,10 @@
 pub mod Stores
 pub mod Phases
 pub mod View
+pub mod Blocks
 pub mod Good
 pub mod Clear
+pub mod Move
 pub mod NewEntries
 pub mod Whole
 pub mod Table
