@@ -7,19 +7,18 @@ use mathlib.Core.List.{List, [], _∷_, _++_, append-nil}
 use native.Mathlib.Omega.{arith}
 use lib.ListN.{length, take}
 use lib.Seq.{take-length}
-use Rattle.gsd_format.specs.declared.Layout.{Layout}
-use Rattle.gsd_format.proofs.Bytes.{Apart}
-use Rattle.gsd_stores.specs.View.{View, indexEnd, namelistEnd}
+use Rattle.gsd_stores.specs.View.{View}
 use Rattle.gsd_stores.specs.Plan.{Plan, dataEnd, namesDone, finalPosition}
 use Rattle.gsd_stores.specs.Steps.{moveNames, storeNames, moveIndex, nameBlock, indexBlock, stepsOf}
 use Rattle.gsd_stores.proofs.Phases.{Phase, _⨾_}
-use Rattle.gsd_stores.proofs.View.{withNameBlock, withIndexBlock, withNames, Is, Room, Base, Shows, Stage}
+use Rattle.gsd_stores.proofs.View.{Is, Room, room-named, Base, Shows, Stage}
+use Rattle.gsd_stores.proofs.Blocks.{Block, theIndex, theNames}
 use Rattle.gsd_stores.proofs.Good.{segmentsAfter, slotsAfter, roomy, named, ready, Good}
 use Rattle.gsd_stores.proofs.Clear.{clear-index, clear-names, store-data}
+use Rattle.gsd_stores.proofs.Move.{room-step}
 use Rattle.gsd_stores.proofs.NewEntries.{Final, store-entries}
 
--- Room behind the data, and behind a block that may have moved
-
+-- room behind the data
 pub room-data : {v : View} {d : ℕ} (m : ℕ) → Room v d 0 d → Room v d m (d + m)
 room-data m r = record {
   low = r .low;
@@ -30,25 +29,6 @@ room-data m r = record {
   offIndex = λ p a b c e. omega arith;
   offNames = λ p a b c e. omega arith;
 }
-
--- the same entries in another layout, with any names
-room-laid : {v : View} {d m pos : ℕ} → Room v d m pos → (l : Layout) (ns : List (List ℕ)) (end : ℕ) → pos ≤ end → indexEnd l ≤ end → namelistEnd l ≤ end →
-    Apart d m (l .index) (32 * l .slots) → Apart d m (l .namelist) (64 * l .segments) → Room (record { layout = l; entries = v .entries; names = ns }) d m end
-room-laid r l ns end a b c f g = record { low = r .low; index = b; names = c; chunks = λ i u. omega (arith, r .chunks i u); body = omega arith; offIndex = f; offNames = g }
-
-module _ {v : View} {d m pos : ℕ} (r : Room v d m pos) where
-  room-named : (ns : List (List ℕ)) → Room (withNames v ns) d m pos
-  room-named ns = room-laid r (v .layout) ns pos (omega arith) (r .index) (r .names) (r .offIndex) (r .offNames)
-
-  room-names : (move : Bool) (n : ℕ) →
-      Room (withNameBlock v (cond move pos (v .layout .namelist)) (cond move n (v .layout .segments))) d m (cond move (pos + 64 * n) pos)
-  room-names false n = r
-  room-names true n = room-laid r _ (v .names) _ (omega arith) (omega arith) (omega arith) (r .offIndex) (λ p a b c e. omega arith)
-
-  room-index : (move : Bool) (n : ℕ) →
-      Room (withIndexBlock v (cond move pos (v .layout .index)) (cond move n (v .layout .slots))) d m (cond move (pos + 32 * n) pos)
-  room-index false n = r
-  room-index true n = room-laid r _ (v .names) _ (omega arith) (omega arith) (omega arith) (λ p a b c e. omega arith) (r .offNames)
 
 cond-more : (move : Bool) (a n : ℕ) → a ≤ cond move (a + n) a
 cond-more false a n = omega arith
@@ -76,10 +56,10 @@ module _ {x₀ : List ℕ} {W : List ℕ → Type 0} {v : View} {p : Plan} (g : 
   names-fit = omega (arith, cond-more (p .indexMoves) (namesDone p) (32 * p .slots))
 
   room-roomy : Room (roomy v p) (p .start) (length (p .body)) (namesDone p)
-  room-roomy = room-names (room-data (length (p .body)) (g .room)) (p .namesMove) (p .segments)
+  room-roomy = room-step theNames (p .namesMove) (dataEnd p) (p .segments) (room-data (length (p .body)) (g .room))
 
   room-ready : Room (ready v p) (p .start) (length (p .body)) (finalPosition p)
-  room-ready = room-index (room-named room-roomy (v .names ++ p .fresh)) (p .indexMoves) (p .slots)
+  room-ready = room-step theIndex (p .indexMoves) (namesDone p) (p .slots) (room-named (v .names ++ p .fresh) room-roomy)
 
   pub whole-append :
       Phase (Stage x₀ v (p .start) (p .body)) (Stage x₀ (roomy v p) (p .start) (p .body)) W (moveNames v p) →
