@@ -11,7 +11,7 @@ use Rattle.gsd_format.specs.declared.Layout.{Layout}
 use Rattle.gsd_format.specs.Bytes.{le, leBytes, part}
 use Rattle.gsd_format.specs.Header.{layoutOf}
 use Rattle.gsd_format.specs.Names.{flat}
-use Rattle.gsd_format.proofs.Bytes.{Same, le-same, le-text, leBytes-length, part-at}
+use Rattle.gsd_format.proofs.Bytes.{Same, le-same, le-text, leBytes-length, part-same}
 use Rattle.gsd_stores.specs.Stores.{words, up}
 use Rattle.gsd_stores.specs.View.{View, namelistEnd}
 use Rattle.gsd_stores.specs.Steps.{moved}
@@ -233,3 +233,20 @@ room-step theNames true b n r = record {
   offIndex = r .offIndex;
   offNames = λ p i j c e. omega arith;
 }
+
+module _ {x₀ : List ℕ} {W : List ℕ → Type 0} {v : View} {d : ℕ} {t : List ℕ} (flag : Bool) (b n : ℕ) (room : Room v d (length t) b) where
+  pub names-step : v .layout .segments ≤ cond flag n (v .layout .segments) → cond flag (b + 64 * n) b ≤ v .layout .len →
+      Shows x₀ W v → Shows x₀ W (withNameBlock v b (v .layout .segments)) →
+      Phase (Stage x₀ v d t) (Stage x₀ (withNameBlock v (cond flag b (v .layout .namelist)) (cond flag n (v .layout .segments))) d t) W
+      (moved flag b (8 * n) (flat (v .names)) 24 n)
+  names-step more fits = move-step theNames flag b n (flat (v .names)) room more fits (λ x s. refl)
+
+  -- the entries' bytes are those of the beginning, where the index block began at a
+  pub index-step : (a : ℕ) → layoutOf x₀ .index ≡ a → a + 32 * length (v .entries) ≤ length x₀ →
+      v .layout .slots ≤ cond flag n (v .layout .slots) → cond flag (b + 32 * n) b ≤ v .layout .len →
+      Shows x₀ W v → Shows x₀ W (withIndexBlock v b (v .layout .slots)) →
+      Phase (Stage x₀ v d t) (Stage x₀ (withIndexBlock v (cond flag b (v .layout .index)) (cond flag n (v .layout .slots))) d t) W
+      (moved flag b (4 * n) (part x₀ a (32 * length (v .entries))) 8 n)
+  index-step a e l more fits =
+      move-step theIndex flag b n (part x₀ a (32 * length (v .entries))) room more fits
+      (λ x s. part-same x (v .layout .index) x₀ a (32 * length (v .entries)) (omega (arith, is-long (s .base .is))) l (rw e at (s .base .raw)))
