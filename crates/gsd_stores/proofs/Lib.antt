@@ -1,5 +1,4 @@
 -- The theorems about appends and what leads to them.
-pub mod Each
 pub mod Stores
 pub mod Phases
 pub mod Keep

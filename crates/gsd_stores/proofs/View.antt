@@ -8,6 +8,7 @@ use native.Mathlib.Decide.{decLt}
 use native.Mathlib.Omega.{arith}
 use lib.ListN.{length, getD}
 use Rattle.gsd_format.specs.declared.Entry.{Entry}
+use Rattle.gsd_format.specs.declared.Layout.{Layout}
 use Rattle.gsd_format.specs.Bytes.{le}
 use Rattle.gsd_format.specs.Types.{chunkSize}
 use Rattle.gsd_format.specs.Header.{headerSize, layoutOf}
@@ -146,6 +147,14 @@ pub record Room (v : View) (d m pos : ℕ) : Type 0 where
   pub body : d + m ≤ pos
   pub offIndex : Apart d m (v .layout .index) (32 * v .layout .slots)
   pub offNames : Apart d m (v .layout .namelist) (64 * v .layout .segments)
+
+-- room for the same entries in another layout, with any names
+pub room-laid : {v : View} {d m pos : ℕ} → Room v d m pos → (l : Layout) (ns : List (List ℕ)) (end : ℕ) → pos ≤ end → indexEnd l ≤ end → namelistEnd l ≤ end →
+    Apart d m (l .index) (32 * l .slots) → Apart d m (l .namelist) (64 * l .segments) → Room (record { layout = l; entries = v .entries; names = ns }) d m end
+room-laid r l ns end a b c f g = record { low = r .low; index = b; names = c; chunks = λ i u. omega (arith, r .chunks i u); body = omega arith; offIndex = f; offNames = g }
+
+pub room-named : {v : View} {d m pos : ℕ} (ns : List (List ℕ)) → Room v d m pos → Room (withNames v ns) d m pos
+room-named {v} {pos} ns r = room-laid r (v .layout) ns pos (omega arith) (r .index) (r .names) (r .offIndex) (r .offNames)
 
 -- behind all that v shows
 pub free-behind : {v : View} {x : List ℕ} {d m pos : ℕ} → Is x v → Room v d m pos → (p : ℕ) → pos ≤ p → Free v p

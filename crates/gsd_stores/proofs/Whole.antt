@@ -11,13 +11,14 @@ use Rattle.gsd_stores.specs.View.{View}
 use Rattle.gsd_stores.specs.Plan.{Plan, dataEnd, namesDone, finalPosition}
 use Rattle.gsd_stores.specs.Steps.{moveNames, storeNames, moveIndex, nameBlock, indexBlock, stepsOf}
 use Rattle.gsd_stores.proofs.Phases.{Phase, _⨾_}
-use Rattle.gsd_stores.proofs.View.{withNameBlock, withIndexBlock, withNames, Is, Room, Base, Shows, Stage}
+use Rattle.gsd_stores.proofs.View.{Is, Room, room-named, Base, Shows, Stage}
+use Rattle.gsd_stores.proofs.Blocks.{Block, theIndex, theNames}
 use Rattle.gsd_stores.proofs.Good.{segmentsAfter, slotsAfter, roomy, named, ready, Good}
 use Rattle.gsd_stores.proofs.Clear.{clear-index, clear-names, store-data}
+use Rattle.gsd_stores.proofs.Move.{room-step}
 use Rattle.gsd_stores.proofs.NewEntries.{Final, store-entries}
 
--- Room behind the data and behind a block that may have moved
-
+-- room behind the data
 pub room-data : {v : View} {d : ℕ} (m : ℕ) → Room v d 0 d → Room v d m (d + m)
 room-data m r = record {
   low = r .low;
@@ -28,36 +29,6 @@ room-data m r = record {
   offIndex = λ p a b c e. omega arith;
   offNames = λ p a b c e. omega arith;
 }
-
-pub room-names : {v : View} {d m pos : ℕ} (move : Bool) (n : ℕ) → Room v d m pos →
-    Room (withNameBlock v (cond move pos (v .layout .namelist)) (cond move n (v .layout .segments))) d m (cond move (pos + 64 * n) pos)
-room-names false n r = r
-room-names true n r = record {
-  low = r .low;
-  index = omega arith;
-  names = omega arith;
-  chunks = λ i l. omega (arith, r .chunks i l);
-  body = omega arith;
-  offIndex = r .offIndex;
-  offNames = λ p a b c e. omega arith;
-}
-
-pub room-index : {v : View} {d m pos : ℕ} (move : Bool) (n : ℕ) → Room v d m pos →
-    Room (withIndexBlock v (cond move pos (v .layout .index)) (cond move n (v .layout .slots))) d m (cond move (pos + 32 * n) pos)
-room-index false n r = r
-room-index true n r = record {
-  low = r .low;
-  index = omega arith;
-  names = omega arith;
-  chunks = λ i l. omega (arith, r .chunks i l);
-  body = omega arith;
-  offIndex = λ p a b c e. omega arith;
-  offNames = r .offNames;
-}
-
--- names take no room of their own
-pub room-named : {v : View} {d m pos : ℕ} (ns : List (List ℕ)) → Room v d m pos → Room (withNames v ns) d m pos
-room-named ns r = record { low = r .low; index = r .index; names = r .names; chunks = r .chunks; body = r .body; offIndex = r .offIndex; offNames = r .offNames }
 
 cond-more : (move : Bool) (a n : ℕ) → a ≤ cond move (a + n) a
 cond-more false a n = omega arith
@@ -85,10 +56,10 @@ module _ {x₀ : List ℕ} {W : List ℕ → Type 0} {v : View} {p : Plan} (g : 
   names-fit = omega (arith, cond-more (p .indexMoves) (namesDone p) (32 * p .slots))
 
   room-roomy : Room (roomy v p) (p .start) (length (p .body)) (namesDone p)
-  room-roomy = room-names (p .namesMove) (p .segments) (room-data (length (p .body)) (g .room))
+  room-roomy = room-step theNames (p .namesMove) (dataEnd p) (p .segments) (room-data (length (p .body)) (g .room))
 
   room-ready : Room (ready v p) (p .start) (length (p .body)) (finalPosition p)
-  room-ready = room-index (p .indexMoves) (p .slots) (room-named (v .names ++ p .fresh) room-roomy)
+  room-ready = room-step theIndex (p .indexMoves) (namesDone p) (p .slots) (room-named (v .names ++ p .fresh) room-roomy)
 
   pub whole-append :
       Phase (Stage x₀ v (p .start) (p .body)) (Stage x₀ (roomy v p) (p .start) (p .body)) W (moveNames v p) →
