@@ -1,7 +1,7 @@
 -- Steps 1 and 2: both blocks are cleared behind their lists, then the data are stored behind all that is in use. Every moment shows what
 -- the beginning showed.
 use Prim.Native.Nat.{ℕ, _+_, _*_, _-_, _/_, _%_, _≤_, _<_}
-use mathlib.Core.Path.{_≡_, refl, sym, _∙_, ap}
+use mathlib.Core.Path.{_≡_, sym, _∙_, ap}
 use mathlib.Core.Logic.{_⊎_, inl, inr}
 use mathlib.Core.List.{List, []}
 use native.Mathlib.Decide.{decLt}
@@ -12,21 +12,19 @@ use Rattle.gsd_format.proofs.Bytes.{le-zero}
 use Rattle.gsd_stores.specs.View.{View, indexEnd, namelistEnd, entriesEnd, namesEnd}
 use Rattle.gsd_stores.specs.Plan.{Plan}
 use Rattle.gsd_stores.specs.Steps.{clearIndex, clearNames, storeData}
-use Rattle.gsd_stores.proofs.Stores.{over-off}
+use Rattle.gsd_stores.proofs.Stores.{between, over-off}
 use Rattle.gsd_stores.proofs.Phases.{Phase}
 use Rattle.gsd_stores.proofs.View.{Is, Free, free-index, free-names, free-behind, Room, Base, Shows, IndexClear, Stage, phase-quiet}
 
 -- where step 1 writes: zeros where the lists end and their names before it, free places elsewhere
 cleared-index : {v : View} {x : List ℕ} → Is x v → (p : ℕ) → entriesEnd v ≤ p → p < indexEnd (v .layout) → (0 ≡ getD x p 0) ⊎ Free v p
-cleared-index {v} {x} h p a b = go (decLt p (entriesEnd v + 16)) (decLt p (entriesEnd v + 24))
-  where
-    go : Dec (p < entriesEnd v + 16) → Dec (p < entriesEnd v + 24) → (0 ≡ getD x p 0) ⊎ Free v p
-    go (no c) (yes d) =
-        let e : getD x (entriesEnd v + 16 + (p - (entriesEnd v + 16))) 0 ≡ 0
-        = le-zero 8 x (entriesEnd v + 16) (h .entries .closed (omega arith)) (p - (entriesEnd v + 16)) (omega arith) in
-        inl (sym e ∙ ap (λ i. getD x i 0) (omega arith))
-    go (yes c) d = inr (free-index h p a b (λ i j. omega arith))
-    go (no c) (no d) = inr (free-index h p a b (λ i j. omega arith))
+cleared-index {v} {x} h p a b = elim (between (entriesEnd v + 16) (entriesEnd v + 24) p) [
+  | inl c ↦
+      let e : getD x (entriesEnd v + 16 + (p - (entriesEnd v + 16))) 0 ≡ 0
+      = le-zero 8 x (entriesEnd v + 16) (h .entries .closed (omega arith)) (p - (entriesEnd v + 16)) (omega arith) in
+      inl (sym e ∙ ap (λ i. getD x i 0) (omega arith))
+  | inr c ↦ inr (free-index h p a b c)
+]
 
 cleared-names : {v : View} {x : List ℕ} → Is x v → (p : ℕ) → v .layout .namelist ≤ p → p < namelistEnd (v .layout) →
     (getD (flat (v .names)) (p - v .layout .namelist) 0 ≡ getD x p 0) ⊎ Free v p

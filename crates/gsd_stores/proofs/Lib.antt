@@ -1,5 +1,4 @@
 -- The theorems about appends and what leads to them.
-pub mod Each
 pub mod Stores
 pub mod Phases
 pub mod View
@@ -8,4 +7,6 @@ pub mod Good
 pub mod Clear
 pub mod Move
 pub mod NewNames
+pub mod NewEntries
+pub mod Whole
 pub mod Table

@@ -7,10 +7,10 @@ use native.Mathlib.Omega.{arith}
 use lib.ListN.{length, getD, take, length-append}
 use lib.Seq.{take-all}
 use Rattle.gsd_stores.specs.Stores.{Store, after, words, up, down, slotsDown}
-use Rattle.gsd_stores.proofs.Each.{each-take}
+use Rattle.gsd_format.proofs.Lists.{each-take}
 use Rattle.gsd_stores.proofs.Stores.{after-append, after-length, after-first, after-second, words-length, words-take, words-off}
 use Rattle.gsd_stores.proofs.Stores.{take-up, take-down, Fills, up-fills, down-fills, slots-fills, fills-off, fills-over, slots-gap}
-use Rattle.gsd_stores.proofs.Stores.{Over, up-over, down-over}
+use Rattle.gsd_stores.proofs.Stores.{Over, Misses, up-over, down-over}
 
 -- from every image with P: W before each store, Q after all
 pub record Phase (P Q W : List ℕ → Type 0) (xs : List Store) : Type 0 where
@@ -92,7 +92,8 @@ phase-slots t base lo n b r w q =
     phase-fills (slots-fills lo n) t base b (λ x p. omega (arith, r x p))
     (λ x p k m. w x p _ (record {
       long = after-length x (words t base (take k (slotsDown lo n)));
-      outside = λ i o. words-off x t base i (each-take k (fills-off (slots-fills lo n) i (λ c d. o c (omega arith))));
-      gap = λ i c d. words-off x t base i (slots-gap n lo i k c d m);
+      outside = λ i o. words-off x t base i (take k (slotsDown lo n))
+          (each-take (Misses i) k (slotsDown lo n) (fills-off (slots-fills lo n) i (λ c d. o c (omega arith))));
+      gap = λ i c d. words-off x t base i (take k (slotsDown lo n)) (slots-gap n lo i k c d m);
     }))
     (λ x p y o. q x p y (let e : lo + 8 * (4 * n) ≡ lo + 32 * n = omega arith in rw e at o))

@@ -1,6 +1,7 @@
 -- Laws of stores and of runs of words: what stands at each place after them, and where they lie.
 use Prim.Native.Nat.{ℕ, zero, suc, _+_, _*_, _-_, _/_, _%_, _≤_, _<_}
 use mathlib.Core.Path.{_≡_, refl, sym, _∙_, ap}
+use mathlib.Core.Logic.{_⊎_, inl, inr}
 use mathlib.Core.List.{List, [], _∷_, _++_, List·Memᴰ as Member, List·Memᴰ·head as here, List·Memᴰ·tail as there, Memᴰ·cast as member-cast}
 use native.Mathlib.Nat.{add-zero, zero-add, suc-add}
 use native.Mathlib.Decide.{decLt}
@@ -9,7 +10,7 @@ use lib.ListN.{length, getD, take, drop, take-append-drop, List·getD-append}
 use lib.Seq.{take-append-le, take-append-add, getD-append-add, take-at, drop-at, take-suc}
 use Rattle.gsd_format.specs.Bytes.{stored}
 use Rattle.gsd_format.proofs.Bytes.{Same, same-head, stored-length, stored-below, stored-above, stored-inside}
-use Rattle.gsd_stores.proofs.Each.{Each, none, more, each-append, each-take, each-weaken}
+use Rattle.gsd_format.proofs.Lists.{Each, each-so}
 use Rattle.gsd_stores.specs.Stores.{Store, after, eightOf, words, up, down, slotsDown}
 
 -- The image after stores
@@ -72,11 +73,11 @@ words-at k t base [] d e h = absurd (omega arith)
 words-at zero t base (a ∷ l) d e h = refl
 words-at (suc k) t base (a ∷ l) d e h = words-at k t base l d e (omega arith)
 
-pub each-words : {P : Store → Type 0} (t : List ℕ) (base : ℕ) {l : List ℕ} →
+pub each-words : (P : Store → Type 0) (t : List ℕ) (base : ℕ) (l : List ℕ) →
     Each (λ a. P (record { place = a; bytes = eightOf t (a - base) })) l → Each P (words t base l)
 unfolding words
-each-words t base none = none
-each-words t base (more p e) = more p (each-words t base e)
+each-words P t base [] e = tt
+each-words P t base (a ∷ l) e = (e .0, each-words P t base l (e .1))
 
 pub eight-same : (t : List ℕ) (i : ℕ) (u : List ℕ) (j : ℕ) → Same t i u j 8 → eightOf t i ≡ eightOf u j
 eight-same t i u j h =
@@ -85,10 +86,10 @@ eight-same t i u j h =
     ∷ h 4 (omega arith) x ∷ h 5 (omega arith) x ∷ h 6 (omega arith) x ∷ h 7 (omega arith) x ∷ []
 
 -- words depend on the bytes that they read alone
-pub words-same : (t : List ℕ) (b : ℕ) (u : List ℕ) (c : ℕ) {l : List ℕ} → Each (λ a. Same t (a - b) u (a - c) 8) l → words t b l ≡ words u c l
+pub words-same : (t : List ℕ) (b : ℕ) (u : List ℕ) (c : ℕ) (l : List ℕ) → Each (λ a. Same t (a - b) u (a - c) 8) l → words t b l ≡ words u c l
 unfolding words
-words-same t b u c none = refl
-words-same t b u c (more {a} s e) = λ x. record { place = a; bytes = eight-same t (a - b) u (a - c) s x } ∷ words-same t b u c e x
+words-same t b u c [] e = refl
+words-same t b u c (a ∷ l) e = λ x. record { place = a; bytes = eight-same t (a - b) u (a - c) (e .0) x } ∷ words-same t b u c l (e .1) x
 
 -- Places
 
@@ -152,39 +153,50 @@ pub drop-slots : (k lo n : ℕ) → k ≤ n → drop (4 * k) (slotsDown lo n) �
 drop-slots k lo n h =
     ap (drop (4 * k)) (slots-cut k lo n h) ∙ drop-at (slotsDown (lo + 32 * (n - k)) k) (slotsDown lo (n - k)) (4 * k) (slots-length (lo + 32 * (n - k)) k)
 
+-- a is the place of one of the n words from lo
+abbrev pub Word : ℕ → ℕ → ℕ → Type 0
+Word lo n a = (k : ℕ) × (k < n) × (a ≡ lo + 8 * k)
+
 -- Where they lie: the places are those of the n words from lo, each of them once and no other, in some order
 pub record Fills (lo n : ℕ) (l : List ℕ) : Type 0 where
   pub size : length l ≡ n
-  pub only : Each (λ a. (k : ℕ) × (k < n) × (a ≡ lo + 8 * k)) l
+  pub only : Each (Word lo n) l
   pub all : (k : ℕ) → k < n → Member (lo + 8 * k) l
+
+-- words of fewer are words of more; words from the second on are words from the first on
+more-words : (lo n m : ℕ) → n ≤ m → (l : List ℕ) → Each (Word lo n) l → Each (Word lo m) l
+more-words lo n m h = each-so (Word lo n) (Word lo m) (λ a w. (w .0, omega arith, w .2))
+
+next-words : (lo n : ℕ) (l : List ℕ) → Each (Word (lo + 8) n) l → Each (Word lo (suc n)) l
+next-words lo n = each-so (Word (lo + 8) n) (Word lo (suc n)) (λ a w. (suc (w .0), omega arith, omega arith))
 
 pub up-fills : (lo n : ℕ) → Fills lo n (up lo n)
 unfolding up
-up-fills lo zero = record { size = refl; only = none; all = λ k h. absurd (omega arith) }
+up-fills lo zero = record { size = refl; only = tt; all = λ k h. absurd (omega arith) }
 up-fills lo (suc n) = go (up-fills (lo + 8) n)
   where
     go : Fills (lo + 8) n (up (lo + 8) n) → Fills lo (suc n) (lo ∷ up (lo + 8) n)
     go f = record {
       size = ap suc (f .size);
-      only = more {a = lo} (0, omega arith, omega arith) (each-weaken (λ a w. (suc (w .0), omega arith, omega arith)) (f .only));
+      only = ((0, omega arith, omega arith), next-words lo n (up (lo + 8) n) (f .only));
       all = elim [ zero ↦ λ h. here {x = lo} (omega arith) | suc k ↦ λ h. there (member-cast (omega arith) (f .all k (omega arith))) ];
     }
 
 pub down-fills : (lo n : ℕ) → Fills lo n (down lo n)
 unfolding down
-down-fills lo zero = record { size = refl; only = none; all = λ k h. absurd (omega arith) }
+down-fills lo zero = record { size = refl; only = tt; all = λ k h. absurd (omega arith) }
 down-fills lo (suc n) = go (down-fills lo n)
   where
     go : Fills lo n (down lo n) → Fills lo (suc n) ((lo + 8 * n) ∷ down lo n)
     go f = record {
       size = ap suc (f .size);
-      only = more {a = lo + 8 * n} (n, omega arith, omega arith) (each-weaken (λ a w. (w .0, omega arith, w .2)) (f .only));
+      only = ((n, omega arith, omega arith), more-words lo n (suc n) (omega arith) (down lo n) (f .only));
       all = λ k h. elim (decLt k n) [ yes l ↦ there (f .all k l) | no l ↦ here {x = lo + 8 * n} (omega arith) ];
     }
 
 pub slots-fills : (lo n : ℕ) → Fills lo (4 * n) (slotsDown lo n)
 unfolding slotsDown
-slots-fills lo zero = record { size = refl; only = none; all = λ k h. absurd (omega arith) }
+slots-fills lo zero = record { size = refl; only = tt; all = λ k h. absurd (omega arith) }
 slots-fills lo (suc n) = go (slots-fills lo n)
   where
     slot : ℕ
@@ -204,10 +216,9 @@ slots-fills lo (suc n) = go (slots-fills lo n)
     go f = record {
       size = omega arith;
       only =
-          more {a = slot} (4 * n, omega arith, omega arith)
-          (more {a = slot + 8} (4 * n + 1, omega arith, omega arith)
-          (more {a = slot + 24} (4 * n + 3, omega arith, omega arith)
-          (more {a = slot + 16} (4 * n + 2, omega arith, omega arith) (each-weaken (λ a w. (w .0, omega arith, w .2)) (f .only)))));
+          let rest : Each (Word lo (4 * suc n)) ((slot + 16) ∷ slotsDown lo n)
+          = ((4 * n + 2, omega arith, omega arith), more-words lo (4 * n) (4 * suc n) (omega arith) (slotsDown lo n) (f .only)) in
+          ((4 * n, omega arith, omega arith), ((4 * n + 1, omega arith, omega arith), ((4 * n + 3, omega arith, omega arith), rest)));
       all = λ k h. elim (decLt k (4 * n)) [
         | yes l ↦ there (there (there (there (f .all k l))))
         | no l ↦ member-cast (omega arith) (last (k - 4 * n) (omega arith))
@@ -215,15 +226,15 @@ slots-fills lo (suc n) = go (slots-fills lo n)
     }
 
 -- so what holds at those words holds of all places, and of all stores there
-pub fills-each : {P : ℕ → Type 0} {lo n : ℕ} {l : List ℕ} → Fills lo n l → ((k : ℕ) → k < n → P (lo + 8 * k)) → Each P l
-fills-each f h = each-weaken (λ a w. rw (w .2) (h (w .0) (w .1))) (f .only)
+pub fills-each : (P : ℕ → Type 0) {lo n : ℕ} {l : List ℕ} → Fills lo n l → ((k : ℕ) → k < n → P (lo + 8 * k)) → Each P l
+fills-each P {lo} {n} {l} f h = each-so (Word lo n) P (λ a w. rw (w .2) (h (w .0) (w .1))) l (f .only)
 
-pub fills-stores : {P : Store → Type 0} {lo n : ℕ} {l : List ℕ} → Fills lo n l → (t : List ℕ) (base : ℕ) →
+pub fills-stores : (P : Store → Type 0) {lo n : ℕ} {l : List ℕ} → Fills lo n l → (t : List ℕ) (base : ℕ) →
     ((k : ℕ) → k < n → P (record { place = lo + 8 * k; bytes = eightOf t (lo + 8 * k - base) })) → Each P (words t base l)
-fills-stores f t base h = each-words t base (fills-each f h)
+fills-stores P {l} f t base h = each-words P t base l (fills-each (λ a. P (record { place = a; bytes = eightOf t (a - base) })) f h)
 
 pub fills-aligned : {lo n : ℕ} {l : List ℕ} → Fills lo n l → (t : List ℕ) (base : ℕ) → Each (λ s. s .place % 8 ≡ lo % 8) (words t base l)
-fills-aligned f t base = fills-stores f t base (λ k h. omega arith)
+fills-aligned {lo} f t base = fills-stores (λ s. s .place % 8 ≡ lo % 8) f t base (λ k h. omega arith)
 
 -- What stands at each place afterwards: x is img, but from lo up to hi it is the text that starts at base
 pub record Over (img t : List ℕ) (base lo hi : ℕ) (x : List ℕ) : Type 0 where
@@ -232,13 +243,21 @@ pub record Over (img t : List ℕ) (base lo hi : ℕ) (x : List ℕ) : Type 0 wh
   pub below : (p : ℕ) → p < lo → getD x p 0 ≡ getD img p 0
   pub above : (p : ℕ) → hi ≤ p → getD x p 0 ≡ getD img p 0
 
-pub over-off : {img t : List ℕ} {base lo hi : ℕ} {x : List ℕ} → Over img t base lo hi x → (p : ℕ) → (lo ≤ p → p < hi → ⊥) → getD x p 0 ≡ getD img p 0
-over-off {img} {t} {base} {lo} {hi} {x} o p h = go (decLt p lo) (decLt p hi)
+-- p lies from lo up to hi, or it does not
+pub between : (lo hi p : ℕ) → ((lo ≤ p) × (p < hi)) ⊎ (lo ≤ p → p < hi → ⊥)
+between lo hi p = go (decLt p lo) (decLt p hi)
   where
-    go : Dec (p < lo) → Dec (p < hi) → getD x p 0 ≡ getD img p 0
-    go (yes a) b = o .below p a
-    go (no a) (yes b) = absurd (h (omega arith) b)
-    go (no a) (no b) = o .above p (omega arith)
+    go : Dec (p < lo) → Dec (p < hi) → ((lo ≤ p) × (p < hi)) ⊎ (lo ≤ p → p < hi → ⊥)
+    go (yes a) b = inr (λ c d. omega arith)
+    go (no a) (yes b) = inl (omega arith, b)
+    go (no a) (no b) = inr (λ c d. omega arith)
+
+-- a run changes nothing outside
+pub over-off : {img t : List ℕ} {base lo hi : ℕ} {x : List ℕ} → Over img t base lo hi x → (p : ℕ) → (lo ≤ p → p < hi → ⊥) → getD x p 0 ≡ getD img p 0
+over-off {lo} {hi} o p h = elim (decLt p lo) [
+  | yes a ↦ o .below p a
+  | no a ↦ o .above p (elim (decLt p hi) [ yes b ↦ absurd (h (omega arith) b) | no b ↦ omega arith ])
+]
 
 pub eight-at : (t : List ℕ) (i k : ℕ) → k < 8 → getD (eightOf t i) k 0 ≡ getD t (i + k) 0
 eight-at t i zero h = ap (λ j. getD t j 0) (sym (add-zero i))
@@ -263,35 +282,38 @@ word-over img t base a b h = record {
   above = λ p l. stored-above img a (eightOf t (a - base)) p l;
 }
 
--- no word of the places holds p
+-- the word at a does not hold p; no word of the places does
+abbrev pub Misses : ℕ → ℕ → Type 0
+Misses p a = a ≤ p → p < a + 8 → ⊥
+
 abbrev pub Off : ℕ → List ℕ → Type 0
-Off p l = Each (λ a. a ≤ p → p < a + 8 → ⊥) l
+Off p l = Each (Misses p) l
 
 -- all words lie behind base, in the first n bytes
 abbrev pub Within : ℕ → ℕ → List ℕ → Type 0
 Within base n l = Each (λ a. (base ≤ a) × (a + 8 ≤ n)) l
 
-pub words-off : (img t : List ℕ) (base p : ℕ) {l : List ℕ} → Off p l → getD (after img (words t base l)) p 0 ≡ getD img p 0
+pub words-off : (img t : List ℕ) (base p : ℕ) (l : List ℕ) → Off p l → getD (after img (words t base l)) p 0 ≡ getD img p 0
 unfolding after words
-words-off img t base p none = refl
-words-off img t base p (more {a} {l} h e) = words-off (stored img a (eightOf t (a - base))) t base p e ∙ outside (decLt p a)
+words-off img t base p [] e = refl
+words-off img t base p (a ∷ l) e = words-off (stored img a (eightOf t (a - base))) t base p l (e .1) ∙ outside (decLt p a)
   where
     outside : Dec (p < a) → getD (stored img a (eightOf t (a - base))) p 0 ≡ getD img p 0
     outside (yes b) = stored-below img a (eightOf t (a - base)) p b
-    outside (no b) = stored-above img a (eightOf t (a - base)) p (elim (decLt p (a + 8)) [ yes c ↦ absurd (h (omega arith) c) | no c ↦ omega arith ])
+    outside (no b) = stored-above img a (eightOf t (a - base)) p (elim (decLt p (a + 8)) [ yes c ↦ absurd (e .0 (omega arith) c) | no c ↦ omega arith ])
 
 -- a place that has the text's byte keeps it
-pub words-keep : (img t : List ℕ) (base n p : ℕ) {l : List ℕ} → n ≤ length img → Within base n l → getD img p 0 ≡ getD t (p - base) 0 →
+pub words-keep : (img t : List ℕ) (base n p : ℕ) (l : List ℕ) → n ≤ length img → Within base n l → getD img p 0 ≡ getD t (p - base) 0 →
     getD (after img (words t base l)) p 0 ≡ getD t (p - base) 0
 unfolding after words
-words-keep img t base n p m none g = g
-words-keep img t base n p m (more {a} h e) g = words-keep x t base n p (omega (arith, over .long)) e (step (decLt p a) (decLt p (a + 8)))
+words-keep img t base n p [] m e g = g
+words-keep img t base n p (a ∷ l) m e g = words-keep x t base n p l (omega (arith, over .long)) (e .1) (step (decLt p a) (decLt p (a + 8)))
   where
     x : List ℕ
     x = stored img a (eightOf t (a - base))
 
     over : Over img t base a (a + 8) x
-    over = word-over img t base a (h .0) (omega arith)
+    over = word-over img t base a (e .0 .0) (omega (arith, e .0 .1))
 
     step : Dec (p < a) → Dec (p < a + 8) → getD x p 0 ≡ getD t (p - base) 0
     step (yes b) c = over .below p b ∙ g
@@ -299,38 +321,38 @@ words-keep img t base n p m (more {a} h e) g = words-keep x t base n p (omega (a
     step (no b) (no c) = over .above p (omega arith) ∙ g
 
 -- a place in one of the words has it afterwards
-pub words-on : (img t : List ℕ) (base n p : ℕ) {l : List ℕ} → n ≤ length img → Within base n l → {a : ℕ} → Member a l → a ≤ p → p < a + 8 →
+pub words-on : (img t : List ℕ) (base n p : ℕ) (l : List ℕ) → n ≤ length img → Within base n l → {a : ℕ} → Member a l → a ≤ p → p < a + 8 →
     getD (after img (words t base l)) p 0 ≡ getD t (p - base) 0
 unfolding after words
-words-on img t base n p m (more {a = b} h e) (here q) x y =
-    words-keep (stored img b (eightOf t (b - base))) t base n p (omega (arith, stored-length img b (eightOf t (b - base)))) e
-    (word-over img t base b (h .0) (omega arith) .inside p (omega arith) (omega arith))
-words-on img t base n p m (more {a = b} h e) (there o) x y =
-    words-on (stored img b (eightOf t (b - base))) t base n p (omega (arith, stored-length img b (eightOf t (b - base)))) e o x y
+words-on img t base n p (b ∷ l) m e (here q) x y =
+    words-keep (stored img b (eightOf t (b - base))) t base n p l (omega (arith, stored-length img b (eightOf t (b - base)))) (e .1)
+    (word-over img t base b (e .0 .0) (omega (arith, e .0 .1)) .inside p (omega arith) (omega arith))
+words-on img t base n p (b ∷ l) m e (there o) x y =
+    words-on (stored img b (eightOf t (b - base))) t base n p l (omega (arith, stored-length img b (eightOf t (b - base)))) (e .1) o x y
 
 -- Runs: a whole stretch of words, in any order
 module _ {lo n : ℕ} {l : List ℕ} (f : Fills lo n l) where
   pub fills-within : (base len : ℕ) → base ≤ lo → lo + 8 * n ≤ len → Within base len l
-  fills-within base len b h = fills-each f (λ k m. (omega arith, omega arith))
+  fills-within base len b h = fills-each (λ a. (base ≤ a) × (a + 8 ≤ len)) f (λ k m. (omega arith, omega arith))
 
   pub fills-off : (p : ℕ) → (lo ≤ p → p < lo + 8 * n → ⊥) → Off p l
-  fills-off p h = fills-each f (λ k m x y. h (omega arith) (omega arith))
+  fills-off p h = fills-each (Misses p) f (λ k m x y. h (omega arith) (omega arith))
 
   pub fills-over : (img t : List ℕ) (base : ℕ) → base ≤ lo → lo + 8 * n ≤ length img → Over img t base lo (lo + 8 * n) (after img (words t base l))
   fills-over img t base b h = record {
     long = after-length img (words t base l);
     inside = λ p x y.
-        words-on img t base (length img) p (omega arith) (fills-within base (length img) b h)
+        words-on img t base (length img) p l (omega arith) (fills-within base (length img) b h)
         (f .all ((p - lo) / 8) (omega arith)) (omega arith) (omega arith);
-    below = λ p x. words-off img t base p (fills-off p (λ c d. omega arith));
-    above = λ p x. words-off img t base p (fills-off p (λ c d. omega arith));
+    below = λ p x. words-off img t base p l (fills-off p (λ c d. omega arith));
+    above = λ p x. words-off img t base p l (fills-off p (λ c d. omega arith));
   }
 
   -- the words depend on the text's bytes there alone
   pub fills-same : (t : List ℕ) (b : ℕ) (u : List ℕ) (c : ℕ) → b ≤ lo → c ≤ lo →
       ((p : ℕ) → lo ≤ p → p < lo + 8 * n → getD t (p - b) 0 ≡ getD u (p - c) 0) → words t b l ≡ words u c l
   fills-same t b u c x y h =
-      words-same t b u c (fills-each f (λ k m j i.
+      words-same t b u c l (fills-each (λ a. Same t (a - b) u (a - c) 8) f (λ k m j i.
       ap (λ q. getD t q 0) (let e : lo + 8 * k - b + j ≡ lo + 8 * k + j - b = omega arith in e)
       ∙ h (lo + 8 * k + j) (omega arith) (omega arith)
       ∙ ap (λ q. getD u q 0) (let e : lo + 8 * k + j - c ≡ lo + 8 * k - c + j = omega arith in e)))
@@ -368,16 +390,15 @@ words-split n m d r pos h =
         ∙ getD-append-add d r (p - (pos + length d)) 0)
 
 slot-front : (n lo p : ℕ) → lo + 16 ≤ p → p < lo + 24 → Off p ((lo + 32 * n) ∷ (lo + 32 * n + 8) ∷ (lo + 32 * n + 24) ∷ [])
-slot-front n lo p a b =
-    more {a = lo + 32 * n} (λ x y. omega arith) (more {a = lo + 32 * n + 8} (λ x y. omega arith) (more {a = lo + 32 * n + 24} (λ x y. omega arith) none))
+slot-front n lo p a b = (λ x y. omega arith, (λ x y. omega arith, (λ x y. omega arith, tt)))
 
 -- Until the last store of all, slots from the last to the first leave the first slot's location as it was
 pub slots-gap : (n lo p k : ℕ) → lo + 16 ≤ p → p < lo + 24 → k < 4 * n → Off p (take k (slotsDown lo n))
 unfolding slotsDown
 slots-gap zero lo p k a b h = absurd (omega arith)
-slots-gap (suc n) lo p zero a b h = none
-slots-gap (suc n) lo p (suc zero) a b h = each-take 1 (slot-front n lo p a b)
-slots-gap (suc n) lo p (suc (suc zero)) a b h = each-take 2 (slot-front n lo p a b)
+slots-gap (suc n) lo p zero a b h = tt
+slots-gap (suc n) lo p (suc zero) a b h = (slot-front n lo p a b .0, tt)
+slots-gap (suc n) lo p (suc (suc zero)) a b h = (slot-front n lo p a b .0, (slot-front n lo p a b .1 .0, tt))
 slots-gap (suc n) lo p (suc (suc (suc zero))) a b h = slot-front n lo p a b
 slots-gap (suc n) lo p (suc (suc (suc (suc k)))) a b h =
-    each-append (slot-front n lo p a b) (more {a = lo + 32 * n + 16} (λ x y. omega arith) (slots-gap n lo p k a b (omega arith)))
+    let (x, (y, (z, u))) = slot-front n lo p a b in (x, (y, (z, (λ i j. omega arith, slots-gap n lo p k a b (omega arith)))))

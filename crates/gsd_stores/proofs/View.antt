@@ -8,6 +8,7 @@ use native.Mathlib.Decide.{decLt}
 use native.Mathlib.Omega.{arith}
 use lib.ListN.{length, getD}
 use Rattle.gsd_format.specs.declared.Entry.{Entry}
+use Rattle.gsd_format.specs.declared.Layout.{Layout}
 use Rattle.gsd_format.specs.Bytes.{le}
 use Rattle.gsd_format.specs.Types.{chunkSize}
 use Rattle.gsd_format.specs.Header.{headerSize, layoutOf}
@@ -20,7 +21,7 @@ use Rattle.gsd_format.proofs.Entries.{IsEntries, is-entries, entries-kept}
 use Rattle.gsd_format.proofs.Verdict.{Front, Blocks, AllSound, layout-same, front-same}
 use Rattle.gsd_stores.specs.Stores.{words, up}
 use Rattle.gsd_stores.specs.View.{View, viewOf, indexEnd, namelistEnd, entriesEnd, namesEnd}
-use Rattle.gsd_stores.proofs.Stores.{Over}
+use Rattle.gsd_stores.proofs.Stores.{Over, between, over-off}
 use Rattle.gsd_stores.proofs.Phases.{Phase, phase-up}
 
 -- v with the name block or the index block elsewhere, with other names, with more entries
@@ -147,6 +148,14 @@ pub record Room (v : View) (d m pos : ℕ) : Type 0 where
   pub offIndex : Apart d m (v .layout .index) (32 * v .layout .slots)
   pub offNames : Apart d m (v .layout .namelist) (64 * v .layout .segments)
 
+-- room for the same entries in another layout, with any names
+pub room-laid : {v : View} {d m pos : ℕ} → Room v d m pos → (l : Layout) (ns : List (List ℕ)) (end : ℕ) → pos ≤ end → indexEnd l ≤ end → namelistEnd l ≤ end →
+    Apart d m (l .index) (32 * l .slots) → Apart d m (l .namelist) (64 * l .segments) → Room (record { layout = l; entries = v .entries; names = ns }) d m end
+room-laid r l ns end a b c f g = record { low = r .low; index = b; names = c; chunks = λ i u. omega (arith, r .chunks i u); body = omega arith; offIndex = f; offNames = g }
+
+pub room-named : {v : View} {d m pos : ℕ} (ns : List (List ℕ)) → Room v d m pos → Room (withNames v ns) d m pos
+room-named {v} {pos} ns r = room-laid r (v .layout) ns pos (omega arith) (r .index) (r .names) (r .offIndex) (r .offNames)
+
 -- behind all that v shows
 pub free-behind : {v : View} {x : List ℕ} {d m pos : ℕ} → Is x v → Room v d m pos → (p : ℕ) → pos ≤ p → Free v p
 free-behind h r p a = record {
@@ -165,12 +174,13 @@ keeps-behind {pos} h r l f = record { long = l; byte = λ p. elim (decLt p pos) 
 -- a run that writes what stands there already, or at free places
 pub keeps-over : {v : View} {x t : List ℕ} {base lo hi : ℕ} {y : List ℕ} → Over x t base lo hi y →
     ((p : ℕ) → lo ≤ p → p < hi → (getD t (p - base) 0 ≡ getD x p 0) ⊎ Free v p) → Keeps v x y
-keeps-over {v} {x} {t} {base} {lo} {hi} {y} o f = record { long = o .long; byte = λ p. go p (decLt p lo) (decLt p hi) }
-  where
-    go : (p : ℕ) → Dec (p < lo) → Dec (p < hi) → (getD y p 0 ≡ getD x p 0) ⊎ Free v p
-    go p (yes a) b = inl (o .below p a)
-    go p (no a) (yes b) = elim (f p (omega arith) b) [ inl e ↦ inl (o .inside p (omega arith) b ∙ e) | inr g ↦ inr g ]
-    go p (no a) (no b) = inl (o .above p (omega arith))
+keeps-over {lo} {hi} o f = record {
+  long = o .long;
+  byte = λ p. elim (between lo hi p) [
+    | inl a ↦ elim (f p (a .0) (a .1)) [ inl e ↦ inl (o .inside p (a .0) (a .1) ∙ e) | inr g ↦ inr g ]
+    | inr a ↦ inl (over-off o p a)
+  ];
+}
 
 -- The stages of an append that began at x₀
 
