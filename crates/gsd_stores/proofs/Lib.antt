@@ -16,6 +16,7 @@ pub mod Limits
 pub mod Places
 pub mod Move
 pub mod NewNames
+pub mod Demand3
 pub mod Table
 pub mod Sheet
 pub mod Plan

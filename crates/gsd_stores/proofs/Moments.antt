@@ -23,7 +23,7 @@ use Rattle.gsd_stores.proofs.Good.{Good, ready as readyView}
 use Rattle.gsd_stores.proofs.Plan.{EndOfUse, positions}
 use Rattle.gsd_stores.proofs.Valid.{Valid, Ready, ready}
 use Rattle.gsd_stores.proofs.NewEntries.{Final}
-use Rattle.gsd_stores.proofs.Whole.{AllShow}
+use Rattle.gsd_stores.proofs.Whole.{AllShow, whole-append}
 use Rattle.gsd_stores.proofs.Keep.{Keep, keep-flip}
 use Rattle.gsd_stores.proofs.Shown.{Legal, shown-opens, shown-entries, opens-shown, opens-legal, extends-keep}
 use Rattle.gsd_stores.proofs.Complete.{frame-complete}
@@ -132,13 +132,13 @@ module _ (x : List ℕ) (rs : List Row) (ok : Valid x rs) where
         }) r (ok .rows) (sound-ids (v .entries) (v .layout) (length (v .names)) (omega (arith, legal .few)) (begins .sound)));
       }
 
--- every moment of an accepted append, from the phase of its stores
-pub moments : (x s : List ℕ) (h : appendTest x s ≡ 0) (ok : Valid x (rowsOf s)) →
-    Phase (Base x (v x (rowsOf s) ok)) (Final x (readyView (v x (rowsOf s) ok) (p x (rowsOf s) ok)) (p x (rowsOf s) ok .entries) (p x (rowsOf s) ok .start) (p x (rowsOf s) ok .body)) (Unchanged x)
-    (stepsOf x (v x (rowsOf s) ok) (p x (rowsOf s) ok)) → Accepted x s
-moments x s h ok f =
-    let b : Base x (viewOf x) x = base-start (begins x (rowsOf s) ok) in
+-- every moment of an accepted append
+pub moments : (x s : List ℕ) → appendTest x s ≡ 0 → Valid x (rowsOf s) → Accepted x s
+moments x s h ok =
+    let stores : Phase (Base x (viewOf x)) (Final x _ _ _ _) (Unchanged x) (stepsOf x (viewOf x) (planOf (viewOf x) (rowsOf s)))
+    = whole-append (ready-good _ _ _ (r x (rowsOf s) ok)) (begins x (rowsOf s) ok) (shows-same x (rowsOf s) ok) in
+    let start : Base x (viewOf x) x = base-start (begins x (rowsOf s) ok) in
     record {
-      before = λ k l. rw (stores-are x s h) (f .during x b k (rw (stores-are x s h) at l));
-      last = rw (stores-are x s h) (grows x (rowsOf s) ok _ (f .final x b));
+      before = λ k l. rw (stores-are x s h) (stores .during x start k (rw (stores-are x s h) at l));
+      last = rw (stores-are x s h) (grows x (rowsOf s) ok _ (stores .final x start));
     }
