@@ -9,24 +9,23 @@ use lib.ListN.{length, getD, length-append, List·getD-append}
 use lib.Seq.{getD-append-add}
 use Rattle.gsd_format.specs.declared.Entry.{Entry}
 use Rattle.gsd_format.specs.declared.Listed.{Listed}
-use Rattle.gsd_format.specs.Bytes.{part, zeros, roundUp}
 use Rattle.gsd_format.specs.Names.{indexOf}
 use Rattle.gsd_format.specs.Entries.{framesOf}
 use Rattle.gsd_format.specs.Opening.{verdict}
 use Rattle.gsd_format.specs.Lookup.{none, lookup, lookupIn}
 use Rattle.gsd_format.proofs.Bytes.{Text}
-use Rattle.gsd_format.proofs.Texts.{text-part}
-use Rattle.gsd_format.proofs.Ids.{Has, index-inj}
+use Rattle.gsd_format.proofs.Ids.{Has}
 use Rattle.gsd_format.proofs.Entries.{ShortIds, frames-below, ordered-front}
 use Rattle.gsd_format.proofs.Lookup.{Stands, find-sound, find-ordered, look-entry, look-found, opened-lookup}
 use Rattle.gsd_stores.specs.View.{View}
 use Rattle.gsd_stores.specs.Sheet.{Row}
-use Rattle.gsd_stores.specs.Plan.{Plan, bodies, padded}
+use Rattle.gsd_stores.specs.Plan.{Plan}
 use Rattle.gsd_stores.specs.Demand3.{Recorded, Complete, noRow}
 use Rattle.gsd_stores.specs.Runs.{frames}
-use Rattle.gsd_stores.proofs.Sheet.{RowOk}
-use Rattle.gsd_stores.proofs.Plan.{padded-length, bodyOffset, offset-within, bodies-text, new-all, rowEntry, row-entry, entry-row}
-use Rattle.gsd_stores.proofs.Valid.{Ready}
+use Rattle.gsd_stores.proofs.Sheet.{RowsOk}
+use Rattle.gsd_stores.proofs.Rows.{all-has}
+use Rattle.gsd_stores.proofs.Plan.{rowEntry, row-entry, named-row}
+use Rattle.gsd_stores.proofs.Valid.{Ready, row-chunk}
 use Rattle.gsd_stores.proofs.View.{Is}
 use Rattle.gsd_stores.proofs.Shown.{shown-entries, shown-names}
 use Rattle.gsd_stores.proofs.Keep.{none-absent}
@@ -41,7 +40,7 @@ pub record Appended (v : View) (rs : List Row) (p : Plan) (y : List ℕ) (w : Vi
   pub long : p .start + length (p .body) ≤ length y
 
 module _ (v : View) (rs : List Row) (p : Plan) (y : List ℕ) (w : View) (h : Appended v rs p y w) (r : Ready v rs p)
-    (ok : (i : ℕ) → i < length rs → RowOk (getD rs i noRow)) (ids : ShortIds (v .entries)) where
+    (ok : RowsOk rs) (ids : ShortIds (v .entries)) where
   look : (frame : ℕ) (name : List ℕ) → lookup y frame name ≡ lookupIn (v .entries ++ p .entries) (v .names ++ p .fresh) frame name
   look frame name = opened-lookup y (h .opens) frame name ∙ (λ i. lookupIn ((shown-entries (h .is) ∙ h .entries) i) ((shown-names (h .is) ∙ h .names) i) frame name)
 
@@ -53,17 +52,7 @@ module _ (v : View) (rs : List Row) (p : Plan) (y : List ℕ) (w : View) (h : Ap
 
   -- each row's name is listed
   listed : (i : ℕ) → i < length rs → Has (getD rs i noRow .name) (v .names ++ p .fresh)
-  listed i l = rw (r .plan .fresh) (new-all (v .names) rs i l)
-
-  -- the row's data stand where its entry says
-  data-at : (i : ℕ) → i < length rs → Text y (p .start + bodyOffset rs i) (getD rs i noRow .body)
-  data-at i l k m =
-      let b : List ℕ = getD rs i noRow .body in
-      let n : length (padded b) ≡ roundUp 8 (length b) = padded-length b in
-      let t : bodyOffset rs i + k < length (bodies rs) = omega (arith, offset-within rs i l) in
-      ap (λ q. getD y q 0) (let e : p .start + bodyOffset rs i + k ≡ p .start + (bodyOffset rs i + k) = omega arith in e)
-      ∙ h .body (bodyOffset rs i + k) (rw (r .plan .body) t) ∙ ap (λ q. getD q (bodyOffset rs i + k) 0) (r .plan .body)
-      ∙ bodies-text rs i l k (omega arith) ∙ List·getD-append b (zeros (roundUp 8 (length b) - length b)) 0 k m
+  listed i l = rw (r .plan .fresh) (all-has (v .names) rs i l)
 
   row-recorded : (i : ℕ) → i < length rs → Recorded y (framesOf (v .entries)) (getD rs i noRow)
   row-recorded i l =
@@ -76,28 +65,25 @@ module _ (v : View) (rs : List Row) (p : Plan) (y : List ℕ) (w : View) (h : Ap
         sameN = refl;
         sameM = refl;
         sameType = refl;
-        sameBytes =
-            ap (part y (p .start + bodyOffset rs i)) (sym (ok i l .size))
-            ∙ text-part y (p .start + bodyOffset rs i) (getD rs i noRow .body) (omega (arith, offset-within rs i l, ap length (r .plan .body), h .long)) (data-at i l);
+        sameBytes = row-chunk v rs p (r .plan) ok i l y (h .long) (h .body);
       }
 
   no-other : (name : List ℕ) → ((i : ℕ) → i < length rs → getD rs i noRow .name ≡ name → ⊥) → (e : Entry) → lookup y (framesOf (v .entries)) name ≡ Listed.Found e → ⊥
   no-other name f e g =
       let m = look-found (v .entries ++ p .entries) (v .names ++ p .fresh) (framesOf (v .entries)) name e .0 (sym (look (framesOf (v .entries)) name) ∙ g) in
       let s : Stands (v .entries ++ p .entries) (framesOf (v .entries)) (indexOf name (v .names ++ p .fresh)) e = find-sound (framesOf (v .entries)) (indexOf name (v .names ++ p .fresh)) (v .entries ++ p .entries) e (m .2) in
-      go s (decLt (s .place) (length (v .entries)))
+      go s (m .1) (decLt (s .place) (length (v .entries)))
     where
-      go : (s : Stands (v .entries ++ p .entries) (framesOf (v .entries)) (indexOf name (v .names ++ p .fresh)) e) → Dec (s .place < length (v .entries)) → ⊥
-      go s (yes l) =
+      go : (s : Stands (v .entries ++ p .entries) (framesOf (v .entries)) (indexOf name (v .names ++ p .fresh)) e) → Has name (v .names ++ p .fresh) → Dec (s .place < length (v .entries)) → ⊥
+      go s n (yes l) =
           let q : getD (v .entries) (s .place) none ≡ e = sym (List·getD-append (v .entries) (p .entries) none (s .place) l) ∙ s .there in
           omega (arith, frames-below (v .entries) 0 0 (ordered-front (v .entries) (p .entries) 0 0 (r .ordered)) ids (s .place) l, ap (λ c. c .frame) q, s .sameFrame)
-      go s (no l) =
+      go s n (no l) =
           let j : ℕ = s .place - length (v .entries) in
           let m : j < length (p .entries) = omega (arith, length-append (v .entries) (p .entries), s .within) in
-          let (i, t) = entry-row v rs p (r .plan) j m in
           let q : getD (p .entries) j none ≡ e = sym (getD-append-add (v .entries) (p .entries) j none) ∙ ap (λ k. getD (v .entries ++ p .entries) k none) (omega arith) ∙ s .there in
-          let d : indexOf (getD rs i noRow .name) (v .names ++ p .fresh) ≡ indexOf name (v .names ++ p .fresh) = sym (ap (λ c. c .id) (t .is)) ∙ ap (λ c. c .id) q ∙ s .sameId in
-          f i (t .row) (index-inj (getD rs i noRow .name) name (v .names ++ p .fresh) (listed i (t .row)) d)
+          let (i, t, d) = named-row v rs p (r .plan) name n j m (ap (λ c. c .id) q ∙ s .sameId) in
+          f i (t .row) d
 
   pub frame-complete : Complete y (framesOf (v .entries)) rs
   frame-complete = record {

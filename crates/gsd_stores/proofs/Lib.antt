@@ -19,5 +19,7 @@ pub mod NewNames
 pub mod Demand3
 pub mod Table
 pub mod Sheet
+pub mod Sorted
+pub mod Rows
 pub mod Plan
 pub mod Valid

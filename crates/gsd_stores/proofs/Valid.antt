@@ -1,37 +1,40 @@
 -- An accepted append: what its number 0 says of the image, the rows and the plan, and that every new entry is sound.
-use Prim.Native.Nat.{ℕ, zero, suc, _+_, _*_, _-_, _^_, _%_, _≤_, _<_}
+use Prim.Native.Nat.{ℕ, _+_, _*_, _-_, _^_, _%_, _≤_, _<_}
 use mathlib.Core.Path.{_≡_, refl, sym, _∙_, ap}
-use mathlib.Core.Bool.{Bool, true, false, not, _||_, cond}
+use mathlib.Core.Bool.{Bool, true, false, not, cond}
 use mathlib.Core.List.{List, [], _∷_, _++_}
 use native.Mathlib.Nat.{add-zero}
 use native.Mathlib.Omega.{arith}
 use lib.ListN.{length, getD, length-append}
-use lib.Dec.{ltb, eqb}
+use lib.Dec.{eqb}
 use borrow.Author.Tests.{eqb-true, not-false}
 use Rattle.gsd_format.specs.declared.Entry.{Entry}
 use Rattle.gsd_format.specs.declared.Layout.{Layout}
-use Rattle.gsd_format.specs.Bytes.{roundUp}
+use Rattle.gsd_format.specs.Bytes.{part}
 use Rattle.gsd_format.specs.Types.{sizeOf, chunkSize}
 use Rattle.gsd_format.specs.Header.{greatestLength, layoutOf}
 use Rattle.gsd_format.specs.Names.{namesOf}
 use Rattle.gsd_format.specs.Entries.{entriesOf, key, framesFrom, framesOf}
-use Rattle.gsd_format.specs.Opening.{verdict, mostNames, namesTest}
-use Rattle.gsd_format.specs.Lookup.{none}
+use Rattle.gsd_format.specs.Opening.{verdict, mostNames}
+use Rattle.gsd_format.specs.Lookup.{none, chunkOf}
 use Rattle.gsd_format.proofs.Lists.{Each, each-at, at-each, each-append}
 use Rattle.gsd_format.proofs.Refusals.{both, unmet, neither, not-less}
-use Rattle.gsd_format.proofs.Bytes.{Octets, Apart}
-use Rattle.gsd_format.proofs.Names.{Named}
-use Rattle.gsd_format.proofs.Entries.{Fits, Ordered, entries-is, frames-none, frames-more, frames-grown, frames-last, ordered-append}
-use Rattle.gsd_format.proofs.Verdict.{Front, Blocks, Sound, AllSound, Opens, verdict-zero, sound-ids}
+use Rattle.gsd_format.proofs.Bytes.{Octets, Text, Apart}
+use Rattle.gsd_format.proofs.Texts.{text-part}
+use Rattle.gsd_format.proofs.Ids.{Distinct}
+use Rattle.gsd_format.proofs.Names.{Named, names-pass}
+use Rattle.gsd_format.proofs.Entries.{Fits, Ordered, ShortIds, entries-is, frames-none, frames-more, frames-grown, frames-last, ordered-append}
+use Rattle.gsd_format.proofs.Verdict.{Blocks, Sound, AllSound, Opens, verdict-zero, sound-ids}
 use Rattle.gsd_stores.specs.Sheet.{Row, rowsOf, rowNames, mostRows}
 use Rattle.gsd_stores.specs.View.{View, viewOf}
-use Rattle.gsd_stores.specs.Plan.{Plan, bodies, newNames, planOf, dataEnd, namesDone, finalPosition}
-use Rattle.gsd_stores.specs.Steps.{nameBlock, indexBlock}
+use Rattle.gsd_stores.specs.Plan.{Plan, newNames, planOf, dataEnd, namesDone, finalPosition}
 use Rattle.gsd_stores.specs.Append.{planTest, appendTest}
 use Rattle.gsd_stores.specs.Demand3.{noRow}
-use Rattle.gsd_format.proofs.Ids.{Distinct, twins-distinct}
-use Rattle.gsd_stores.proofs.Sheet.{Accepted, RowOk, accepted, rows-count, rows-ok}
-use Rattle.gsd_stores.proofs.Plan.{EndOfUse, Planned, segmentsAfter, slotsAfter, chosen, positions, body-even, entries-count, all-distinct, RowEntry, rowEntry, rowEntries, Rising, bodyOffset, offset-even, offset-within, new-each, new-all, new-differing, sorted-rising, sorted-each, rising-ordered, planned, entry-row}
+use Rattle.gsd_stores.proofs.Sheet.{Accepted, RowsOk, accepted, rows-count, rows-ok}
+use Rattle.gsd_stores.proofs.Sorted.{Rising, sorted-rising, rising-ordered}
+use Rattle.gsd_stores.proofs.Rows.{bodyOffset, body-text, offset-even, offset-inside, new-names, new-each, all-has, all-distinct, new-differing}
+use Rattle.gsd_stores.proofs.Plan.{layoutAfter, entriesAfter, namesAfter, rowEntries, rowEntry, Planned, chosen, planned, positions}
+use Rattle.gsd_stores.proofs.Plan.{body-even, entries-count, entry-row}
 
 pub record Valid (x : List ℕ) (rs : List Row) : Type 0 where
   pub opens : verdict x ≡ 0
@@ -39,7 +42,7 @@ pub record Valid (x : List ℕ) (rs : List Row) : Type 0 where
   pub evenNames : viewOf x .layout .namelist % 8 ≡ 0
   pub some : 0 < length rs
   pub few : length rs ≤ mostRows
-  pub rows : (i : ℕ) → i < length rs → RowOk (getD rs i noRow)
+  pub rows : RowsOk rs
   pub distinct : Distinct (rowNames rs)
   pub fewNames : length (viewOf x .names) + length (newNames (viewOf x .names) rs) ≤ mostNames
   pub fits : finalPosition (planOf (viewOf x) rs) ≤ viewOf x .layout .len
@@ -51,7 +54,8 @@ valid x s o h =
     let from21 = both _ _ (from1 .1) in
     let from22 = both _ _ (from21 .1) in
     let from28 = both _ _ (from22 .1) in
-    let even : ((not (eqb (viewOf x .layout .index % 8) 0) ≡ false) × (not (eqb (viewOf x .layout .namelist % 8) 0) ≡ false)) = neither _ _ (unmet _ _ (from21 .0)) in
+    let even : ((not (eqb (viewOf x .layout .index % 8) 0) ≡ false) × (not (eqb (viewOf x .layout .namelist % 8) 0) ≡ false)) =
+    neither _ _ (unmet _ _ (from21 .0)) in
     let ok : Accepted s = accepted s (from22 .0) in
     record {
       opens = from1 .0;
@@ -75,23 +79,23 @@ pub record NewSound (v : View) (p : Plan) (e : Entry) : Type 0 where
   pub even : e .location % 8 ≡ 0
   pub high : e .location + chunkSize e ≤ dataEnd p
   pub known : 0 < sizeOf (e .kind)
-  pub id : e .id < length (v .names ++ p .fresh)
+  pub id : e .id < length (namesAfter v p)
   pub flags : e .flags ≡ 0
 
-module _ (v : View) (rs : List Row) (p : Plan) (plan : Planned v rs p) (ok : (i : ℕ) → i < length rs → RowOk (getD rs i noRow)) where
+module _ (v : View) (rs : List Row) (p : Plan) (plan : Planned v rs p) (ok : RowsOk rs) where
   row-sound : (i : ℕ) → i < length rs → NewSound v p (rowEntry v rs p i)
   row-sound i l = record {
     frame = refl;
     low = omega (arith, plan .room .header);
     behind = omega arith;
     even = omega (arith, plan .room .even, offset-even rs i);
-    high = omega (arith, ok i l .size, offset-within rs i l, ap length (plan .body));
+    high = omega (arith, ok i l .size, offset-inside rs i l, ap length (plan .body));
     known = ok i l .known;
-    id = rw (plan .fresh) (new-all (v .names) rs i l);
+    id = rw (plan .fresh) (all-has (v .names) rs i l);
     flags = refl;
   }
 
-  row-fits : (i : ℕ) → i < length rs → framesOf (v .entries) < 2 ^ 64 → dataEnd p < 2 ^ 64 → length (v .names ++ p .fresh) ≤ 65536 → Fits (rowEntry v rs p i)
+  row-fits : (i : ℕ) → i < length rs → framesOf (v .entries) < 2 ^ 64 → dataEnd p < 2 ^ 64 → length (namesAfter v p) ≤ 65536 → Fits (rowEntry v rs p i)
   row-fits i l f d n = record {
     frame = f;
     n = ok i l .fitN;
@@ -105,15 +109,25 @@ module _ (v : View) (rs : List Row) (p : Plan) (plan : Planned v rs p) (ok : (i 
   pub new-sound : (j : ℕ) → j < length (p .entries) → NewSound v p (getD (p .entries) j none)
   new-sound j m = let (i, r) = entry-row v rs p plan j m in rw (r .is) (row-sound i (r .row))
 
-  pub new-fits : framesOf (v .entries) < 2 ^ 64 → dataEnd p < 2 ^ 64 → length (v .names ++ p .fresh) ≤ 65536 → (j : ℕ) → j < length (p .entries) → Fits (getD (p .entries) j none)
+  -- where the data stand, the chunk of a row's entry is the row's data
+  pub row-chunk : (i : ℕ) → i < length rs → (y : List ℕ) → dataEnd p ≤ length y → Text y (p .start) (p .body) → chunkOf y (rowEntry v rs p i) ≡ getD rs i noRow .body
+  row-chunk i l y f h =
+      let b : List ℕ = getD rs i noRow .body in
+      let size : length b ≡ chunkSize (rowEntry v rs p i) = ok i l .size in
+      ap (part y (p .start + bodyOffset rs i)) (sym size)
+      ∙ text-part y (p .start + bodyOffset rs i) b (omega (arith, row-sound i l .high)) (body-text rs y (p .start) (rw (plan .body) at h) i l)
+
+  pub new-fits : framesOf (v .entries) < 2 ^ 64 → dataEnd p < 2 ^ 64 → length (namesAfter v p) ≤ 65536 →
+      (j : ℕ) → j < length (p .entries) → Fits (getD (p .entries) j none)
   new-fits f d n j m = let (i, r) = entry-row v rs p plan j m in rw (r .is) (row-fits i (r .row) f d n)
 
   pub new-named : Each Named (p .fresh)
-  new-named = rw (plan .fresh) (new-each Named (v .names) rs (at-each _ rs noRow (λ i l. ok i l .named)))
+  new-named = rw (plan .fresh) (new-each Named (new-names (v .names) rs) (at-each _ rs noRow (λ i l. ok i l .named)))
 
   -- rows of different names: the new entries' ids rise, and they are in order behind the listed ones
   pub new-rising : Distinct (rowNames rs) → Rising 0 (p .entries)
-  new-rising d = rw (plan .entries) (sorted-rising (rowEntries v rs p) (new-differing rs (p .start) (framesOf (v .entries)) (v .names ++ p .fresh) (λ i l. row-sound i l .id) d))
+  new-rising d =
+      rw (plan .entries) (sorted-rising (rowEntries v rs p) (new-differing rs (p .start) (framesOf (v .entries)) (namesAfter v p) (λ i l. row-sound i l .id) d))
 
   pub new-ordered : Distinct (rowNames rs) → Ordered (65536 * framesOf (v .entries)) (framesOf (v .entries)) (p .entries)
   new-ordered d =
@@ -122,18 +136,18 @@ module _ (v : View) (rs : List Row) (p : Plan) (plan : Planned v rs p) (ok : (i 
 
 -- The blocks after the append
 
-abbrev pub layoutAfter : View → Plan → Layout
-layoutAfter v p = record { len = v .layout .len; index = indexBlock v p; slots = slotsAfter v p; namelist = nameBlock v p; segments = segmentsAfter v p }
-
 -- what is apart from a block stays so if the block moves behind it
-apart-block : (moves : Bool) (unit new many old few a n : ℕ) → Apart a n old (unit * few) → a + n ≤ new → Apart a n (cond moves new old) (unit * cond moves many few)
+apart-block : (moves : Bool) (unit new many old few a n : ℕ) → Apart a n old (unit * few) → a + n ≤ new →
+    Apart a n (cond moves new old) (unit * cond moves many few)
 apart-block true unit new many old few a n f g p i j k l = omega arith
 apart-block false unit new many old few a n f g p i j k l = f p i j k l
 
-block-high : (moves : Bool) (unit new many old few len : ℕ) → cond moves (new + unit * many) new ≤ len → old + unit * few ≤ len → cond moves new old + unit * cond moves many few ≤ len
+block-high : (moves : Bool) (unit new many old few len : ℕ) → cond moves (new + unit * many) new ≤ len → old + unit * few ≤ len →
+    cond moves new old + unit * cond moves many few ≤ len
 block-high true unit new many old few len f g = f
 block-high false unit new many old few len f g = g
 
+-- the index block moves behind the data and the name block, the name block behind the data
 blocks-apart : (i n : Bool) (index slots more names segments most start end : ℕ) → index + 32 * slots ≤ start → names + 64 * segments ≤ start → start ≤ end →
     Apart index (32 * slots) names (64 * segments) →
     Apart (cond i (cond n (end + 64 * most) end) index) (32 * cond i more slots) (cond n end names) (64 * cond n most segments)
@@ -142,40 +156,45 @@ blocks-apart true false index slots more names segments most start end f g h a p
 blocks-apart false true index slots more names segments most start end f g h a p b c d e = omega arith
 blocks-apart false false index slots more names segments most start end f g h a p b c d e = a p b c d e
 
-module _ (v : View) (rs : List Row) (p : Plan) (plan : Planned v rs p) (fits : finalPosition p ≤ v .layout .len) where
+module _ (v : View) (rs : List Row) (p : Plan) (plan : Planned v rs p) (fits : finalPosition p ≤ v .layout .len) (small : v .layout .len ≤ greatestLength) where
   pub blocks-after : Blocks (v .layout) → Blocks (layoutAfter v p)
-  blocks-after b = record {
-    indexLow = chosen (λ k. 256 ≤ k) (p .indexMoves) (namesDone p) (v .layout .index) (omega (arith, positions p, plan .room .header)) (λ e. b .indexLow);
-    indexHigh = block-high (p .indexMoves) 32 (namesDone p) (p .slots) (v .layout .index) (v .layout .slots) (v .layout .len) fits (b .indexHigh);
-    namelistLow = chosen (λ k. 256 ≤ k) (p .namesMove) (dataEnd p) (v .layout .namelist) (omega (arith, plan .room .header)) (λ e. b .namelistLow);
-    namelistHigh = block-high (p .namesMove) 64 (dataEnd p) (p .segments) (v .layout .namelist) (v .layout .segments) (v .layout .len) (omega (arith, positions p)) (b .namelistHigh);
-    apart = blocks-apart (p .indexMoves) (p .namesMove) (v .layout .index) (v .layout .slots) (p .slots) (v .layout .namelist) (v .layout .segments) (p .segments) (p .start) (dataEnd p)
-        (plan .room .index) (plan .room .names) (omega arith) (b .apart);
-  }
+  blocks-after b =
+      let l : Layout = v .layout in
+      record {
+        indexLow = chosen (λ k. 256 ≤ k) (p .indexMoves) (namesDone p) (l .index) (omega (arith, positions p, plan .room .header)) (λ e. b .indexLow);
+        indexHigh = block-high (p .indexMoves) 32 (namesDone p) (p .slots) (l .index) (l .slots) (l .len) fits (b .indexHigh);
+        namelistLow = chosen (λ k. 256 ≤ k) (p .namesMove) (dataEnd p) (l .namelist) (omega (arith, plan .room .header)) (λ e. b .namelistLow);
+        namelistHigh = block-high (p .namesMove) 64 (dataEnd p) (p .segments) (l .namelist) (l .segments) (l .len) (omega (arith, positions p)) (b .namelistHigh);
+        apart = blocks-apart (p .indexMoves) (p .namesMove) (l .index) (l .slots) (p .slots) (l .namelist) (l .segments) (p .segments) (p .start) (dataEnd p)
+            (plan .room .index) (plan .room .names) (omega arith) (b .apart);
+      }
 
-  -- entries that ended before the data, and entries of the data, are sound with the blocks as they then lie
-  sound-after : (names : ℕ) (e : Entry) → 256 ≤ e .location → v .layout .len ≤ greatestLength → 0 < sizeOf (e .kind) → e .id < names → e .location + chunkSize e ≤ dataEnd p →
-      Apart (e .location) (chunkSize e) (v .layout .index) (32 * v .layout .slots) → Apart (e .location) (chunkSize e) (v .layout .namelist) (64 * v .layout .segments) →
-      Sound (layoutAfter v p) names e
-  sound-after names e low small known id high offIndex offNames = record {
-    low = low;
-    high = omega (arith, positions p);
-    typed = known;
-    named = id;
-    within = omega (arith, positions p);
-    offIndex = apart-block (p .indexMoves) 32 (namesDone p) (p .slots) (v .layout .index) (v .layout .slots) (e .location) (chunkSize e) offIndex (omega (arith, positions p));
-    offNames = apart-block (p .namesMove) 64 (dataEnd p) (p .segments) (v .layout .namelist) (v .layout .segments) (e .location) (chunkSize e) offNames high;
-  }
+  -- an entry whose chunk ends with the data or before, apart from the blocks, is sound with the blocks as they then lie
+  sound-after : (names : ℕ) (e : Entry) → 256 ≤ e .location → 0 < sizeOf (e .kind) → e .id < names → e .location + chunkSize e ≤ dataEnd p →
+      Apart (e .location) (chunkSize e) (v .layout .index) (32 * v .layout .slots) →
+      Apart (e .location) (chunkSize e) (v .layout .namelist) (64 * v .layout .segments) → Sound (layoutAfter v p) names e
+  sound-after names e low known id high offIndex offNames =
+      let l : Layout = v .layout in
+      record {
+        low = low;
+        high = omega (arith, positions p);
+        typed = known;
+        named = id;
+        within = omega (arith, positions p);
+        offIndex = apart-block (p .indexMoves) 32 (namesDone p) (p .slots) (l .index) (l .slots) (e .location) (chunkSize e) offIndex (omega (arith, positions p));
+        offNames = apart-block (p .namesMove) 64 (dataEnd p) (p .segments) (l .namelist) (l .segments) (e .location) (chunkSize e) offNames high;
+      }
 
-  pub old-after : v .layout .len ≤ greatestLength → AllSound (v .layout) (length (v .names)) (v .entries) → AllSound (layoutAfter v p) (length (v .names ++ p .fresh)) (v .entries)
-  old-after small s i l =
-      sound-after (length (v .names ++ p .fresh)) (getD (v .entries) i none) (s i l .low) small (s i l .typed) (omega (arith, s i l .named, length-append (v .names) (p .fresh)))
-      (omega (arith, plan .room .chunks i l)) (s i l .offIndex) (s i l .offNames)
+  pub old-after : AllSound (v .layout) (length (v .names)) (v .entries) → AllSound (layoutAfter v p) (length (namesAfter v p)) (v .entries)
+  old-after all i l =
+      let s : Sound (v .layout) (length (v .names)) (getD (v .entries) i none) = all i l in
+      sound-after (length (namesAfter v p)) (getD (v .entries) i none) (s .low) (s .typed) (omega (arith, length-append (v .names) (p .fresh)))
+      (omega (arith, plan .room .chunks i l)) (s .offIndex) (s .offNames)
 
-  pub new-after : v .layout .len ≤ greatestLength → ((i : ℕ) → i < length rs → RowOk (getD rs i noRow)) → AllSound (layoutAfter v p) (length (v .names ++ p .fresh)) (p .entries)
-  new-after small ok j l =
+  pub new-after : RowsOk rs → AllSound (layoutAfter v p) (length (namesAfter v p)) (p .entries)
+  new-after ok j l =
       let s : NewSound v p (getD (p .entries) j none) = new-sound v rs p plan ok j l in
-      sound-after (length (v .names ++ p .fresh)) (getD (p .entries) j none) (s .low) small (s .known) (s .id) (s .high)
+      sound-after (length (namesAfter v p)) (getD (p .entries) j none) (s .low) (s .known) (s .id) (s .high)
       (λ q a b c d. omega (arith, plan .room .index)) (λ q a b c d. omega (arith, plan .room .names))
 
 -- An accepted append is ready to be stored
@@ -189,17 +208,18 @@ pub record Ready (v : View) (rs : List Row) (p : Plan) : Type 0 where
   pub small : v .layout .len ≤ greatestLength
   -- names: the new ones are names, and no two of all are equal
   pub named : Each Named (p .fresh)
-  pub fewNames : length (v .names ++ p .fresh) ≤ mostNames
-  pub distinct : Distinct (v .names ++ p .fresh)
+  pub fewNames : length (namesAfter v p) ≤ mostNames
+  pub distinct : Distinct (namesAfter v p)
   -- entries: there is a new one, each is sound and fits its bytes, and all are in order
   pub some : 0 < length (p .entries)
   pub new : (j : ℕ) → j < length (p .entries) → NewSound v p (getD (p .entries) j none)
   pub exact : (j : ℕ) → j < length (p .entries) → Fits (getD (p .entries) j none)
-  pub ordered : Ordered 0 0 (v .entries ++ p .entries)
-  pub frames : framesOf (v .entries ++ p .entries) ≡ framesOf (v .entries) + 1
-  -- the blocks where they lie afterwards, and all entries with them
+  pub ordered : Ordered 0 0 (entriesAfter v p)
+  pub rising : Rising 0 (p .entries)
+  pub frames : framesOf (entriesAfter v p) ≡ framesOf (v .entries) + 1
+  -- the blocks as they lie afterwards, and all entries with them
   pub blocks : Blocks (layoutAfter v p)
-  pub sound : AllSound (layoutAfter v p) (length (v .names ++ p .fresh)) (v .entries ++ p .entries)
+  pub sound : AllSound (layoutAfter v p) (length (namesAfter v p)) (entriesAfter v p)
 
 -- a frame is at most one above the one before it
 frames-few : (es : List Entry) (least top : ℕ) → Ordered least top es → framesFrom top es ≤ top + length es
@@ -212,8 +232,7 @@ unfolding entriesOf layoutOf
 entries-room x o = omega (arith, entries-is (layoutOf x .slots) x (layoutOf x .index) .few, o .blocks .indexHigh, o .front .high)
 
 names-distinct : (x : List ℕ) → Opens x → Distinct (namesOf x)
-unfolding namesTest
-names-distinct x o = twins-distinct (namesOf x) (unmet _ _ (both _ _ (both _ _ (o .names) .1) .1))
+names-distinct x o = names-pass x (layoutOf x) (namesOf x) (o .names) .2
 
 pub ready : (x : List ℕ) (rs : List Row) → Valid x rs → Ready (viewOf x) rs (planOf (viewOf x) rs)
 unfolding viewOf layoutOf
@@ -224,10 +243,14 @@ ready x rs ok =
     let opens : Opens x = verdict-zero x .0 (ok .opens) in
     let small : length x ≤ greatestLength = opens .front .high in
     let fresh : p .fresh ≡ newNames (namesOf x) rs = plan .fresh in
-    let names : length (namesOf x ++ p .fresh) ≤ mostNames = rw (fresh, length-append) (ok .fewNames) in
+    let names : length (namesAfter v p) ≤ mostNames = rw (fresh, length-append) (ok .fewNames) in
     let frames : framesOf (entriesOf x) < 2 ^ 64 = omega (arith, frames-few (entriesOf x) 0 0 (opens .ordered), entries-room x opens) in
     let new : ((j : ℕ) → j < length (p .entries) → NewSound v p (getD (p .entries) j none)) = new-sound v rs p plan (ok .rows) in
     let some : 0 < length (p .entries) = omega (arith, entries-count v rs p plan, ok .some) in
+    let end : ℕ = length (p .entries) - 1 in
+    let few : length (namesOf x) ≤ 65536 = omega (arith, length-append (namesOf x) (p .fresh)) in
+    let ids : ShortIds (entriesOf x) = sound-ids (entriesOf x) (layoutOf x) (length (namesOf x)) few (opens .sound) in
+    let Fine : (Entry → Type 0) = Sound (layoutAfter v p) (length (namesAfter v p)) in
     record {
       plan = plan;
       evenIndex = ok .evenIndex;
@@ -241,11 +264,11 @@ ready x rs ok =
       some = some;
       new = new;
       exact = new-fits v rs p plan (ok .rows) frames (omega (arith, positions p, ok .fits)) (omega arith);
-      ordered = ordered-append (entriesOf x) (p .entries) 0 0 (opens .ordered) (sound-ids (entriesOf x) (layoutOf x) (length (namesOf x)) (omega (arith, length-append (namesOf x) (p .fresh))) (opens .sound)) (omega arith)
-          (new-ordered v rs p plan (ok .rows) (ok .distinct));
-      frames = frames-grown 0 0 (entriesOf x) (p .entries) some ∙ frames-last 0 (p .entries) (length (p .entries) - 1) (omega arith)
-          ∙ ap (λ f. f + 1) (new (length (p .entries) - 1) (omega arith) .frame);
-      blocks = blocks-after v rs p plan (ok .fits) (opens .blocks);
-      sound = each-at (Sound (layoutAfter v p) (length (namesOf x ++ p .fresh))) (entriesOf x ++ p .entries) none (each-append _ (entriesOf x) (p .entries)
-          (at-each _ (entriesOf x) none (old-after v rs p plan (ok .fits) small (opens .sound))) (at-each _ (p .entries) none (new-after v rs p plan (ok .fits) small (ok .rows))));
+      ordered = ordered-append (entriesOf x) (p .entries) 0 0 (opens .ordered) ids (omega arith) (new-ordered v rs p plan (ok .rows) (ok .distinct));
+      rising = new-rising v rs p plan (ok .rows) (ok .distinct);
+      frames = frames-grown 0 0 (entriesOf x) (p .entries) some ∙ frames-last 0 (p .entries) end (omega arith) ∙ ap (λ f. f + 1) (new end (omega arith) .frame);
+      blocks = blocks-after v rs p plan (ok .fits) small (opens .blocks);
+      sound = each-at Fine (entriesOf x ++ p .entries) none (each-append Fine (entriesOf x) (p .entries)
+          (at-each Fine (entriesOf x) none (old-after v rs p plan (ok .fits) small (opens .sound)))
+          (at-each Fine (p .entries) none (new-after v rs p plan (ok .fits) small (ok .rows))));
     }
