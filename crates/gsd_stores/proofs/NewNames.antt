@@ -11,7 +11,7 @@ use Rattle.gsd_format.specs.Header.{headerSize}
 use Rattle.gsd_format.specs.Names.{flat}
 use Rattle.gsd_format.proofs.Lists.{Each, each-append}
 use Rattle.gsd_format.proofs.Bytes.{Apart}
-use Rattle.gsd_format.proofs.Names.{Named, flat-none, flat-append, flat-size, flat-more}
+use Rattle.gsd_format.proofs.Names.{Named, flat-append, flat-size, flat-more}
 use Rattle.gsd_format.proofs.Verdict.{layout-same}
 use Rattle.gsd_stores.specs.View.{View, namesEnd, namelistEnd}
 use Rattle.gsd_stores.specs.Steps.{storeName, storeNames}
