@@ -151,7 +151,8 @@ pub record Room (v : View) (d m pos : ℕ) : Type 0 where
 -- room for the same entries in another layout, with any names
 pub room-laid : {v : View} {d m pos : ℕ} → Room v d m pos → (l : Layout) (ns : List (List ℕ)) (end : ℕ) → pos ≤ end → indexEnd l ≤ end → namelistEnd l ≤ end →
     Apart d m (l .index) (32 * l .slots) → Apart d m (l .namelist) (64 * l .segments) → Room (record { layout = l; entries = v .entries; names = ns }) d m end
-room-laid r l ns end a b c f g = record { low = r .low; index = b; names = c; chunks = λ i u. omega (arith, r .chunks i u); body = omega arith; offIndex = f; offNames = g }
+room-laid r l ns end a b c f g =
+    record { low = r .low; index = b; names = c; chunks = λ i u. omega (arith, r .chunks i u); body = omega arith; offIndex = f; offNames = g }
 
 pub room-named : {v : View} {d m pos : ℕ} (ns : List (List ℕ)) → Room v d m pos → Room (withNames v ns) d m pos
 room-named {v} {pos} ns r = room-laid r (v .layout) ns pos (omega arith) (r .index) (r .names) (r .offIndex) (r .offNames)
