@@ -17,9 +17,9 @@ use Rattle.gsd_stores.specs.View.{View}
 use Rattle.gsd_stores.specs.Steps.{moved}
 use Rattle.gsd_stores.proofs.Stores.{Over, over-off}
 use Rattle.gsd_stores.proofs.Phases.{Phase, phase-nil, phase-one, _⨾_}
-use Rattle.gsd_stores.proofs.View.{withNameBlock, withIndexBlock, is-long, free-behind, Room, room-laid, Shows, Stage, stage-behind, phase-quiet}
-use Rattle.gsd_stores.proofs.Blocks.{Filled, filled-text, Block, theIndex, theNames, unitOf, startIn, countIn, listIn, Housed, housed-kept, stage-housed}
-use Rattle.gsd_stores.proofs.Blocks.{Relaid, restage}
+use Rattle.gsd_stores.proofs.View.{indexLaid, namesLaid, withIndexBlock, withNameBlock, is-long, free-behind, Room, room-laid, Shows, Stage, stage-behind, phase-quiet}
+use Rattle.gsd_stores.proofs.Blocks.{Filled, filled-text, Block, theIndex, theNames, unitOf, startIn, countIn, listIn}
+use Rattle.gsd_stores.proofs.Blocks.{Housed, housed-kept, stage-housed, Relaid, restage}
 
 -- the header's place for where the block begins; its count stands in the next word
 abbrev pub headerPlace : Block → ℕ
@@ -27,8 +27,8 @@ headerPlace theIndex = 8
 headerPlace theNames = 24
 
 abbrev pub laid : Block → Layout → ℕ → ℕ → Layout
-laid theIndex l b n = record { len = l .len; index = b; slots = n; namelist = l .namelist; segments = l .segments }
-laid theNames l b n = record { len = l .len; index = l .index; slots = l .slots; namelist = b; segments = n }
+laid theIndex = indexLaid
+laid theNames = namesLaid
 
 -- v with the block elsewhere
 abbrev pub withBlock : Block → View → ℕ → ℕ → View
@@ -103,7 +103,8 @@ units-more theNames s n l = omega arith
 
 -- the new block is one of an image that shows v, with any count from the old one to the new one
 housed-moved : {x₀ : List ℕ} {v : View} {d : ℕ} {t : List ℕ} {x : List ℕ} (k : Block) (b s n : ℕ) → Stage x₀ v d t x → Room v d (length t) b →
-    countIn k (v .layout) ≤ s → s ≤ n → b + unitOf k * n ≤ v .layout .len → Filled x b (unitOf k * n) (listIn k x v) → Housed v x b (unitOf k * s) (listIn k x v)
+    countIn k (v .layout) ≤ s → s ≤ n → b + unitOf k * n ≤ v .layout .len → Filled x b (unitOf k * n) (listIn k x v) →
+    Housed v x b (unitOf k * s) (listIn k x v)
 housed-moved {v} k b s n stage room low high fits f = record {
   low = omega arith;
   high = omega (arith, units-more k s n high);
@@ -158,7 +159,7 @@ module _ {x₀ : List ℕ} {v : View} {d : ℕ} {t : List ℕ} (k : Block) (b n 
       = housed-moved k b s n stage room low high fits (rw (lists (p .old) stage) (p .copied .filled)) in
       restage (room .low) (room .offNames) (relaid k stage room new (p .headed)) stage
 
-  -- before each store of the new block, and before the two words of the header
+  -- the image shows v while the block is copied, then the new place with the old count, and at last the new count
   pub move-block : {W : List ℕ → Type 0} → Shows x₀ W v → Shows x₀ W (withBlock k v b (countIn k (v .layout))) →
       Phase (Stage x₀ v d t) (Stage x₀ (withBlock k v b n) d t) W (moved true b (wordsIn k * n) text (headerPlace k) n)
   unfolding moved
@@ -192,7 +193,7 @@ module _ {x₀ : List ℕ} {v : View} {d : ℕ} {t : List ℕ} (k : Block) (b n 
 
 -- The steps: the block moves if the flag says so
 
--- the view afterwards, and the position behind it
+-- the view afterwards
 abbrev pub ifMoved : Block → Bool → View → ℕ → ℕ → View
 ifMoved k flag v b n = withBlock k v (cond flag b (startIn k (v .layout))) (cond flag n (countIn k (v .layout)))
 
@@ -208,7 +209,7 @@ unfolding moved
 move-step k true b n text room more fits lists before between = move-block k b n text room more fits lists before between
 move-step {v} k false b n text room more fits lists before between = rw (block-stays k v) phase-nil
 
--- the position behind the data and the blocks
+-- and the room behind it
 pub room-step : {v : View} {d m : ℕ} (k : Block) (flag : Bool) (b n : ℕ) → Room v d m b → Room (ifMoved k flag v b n) d m (cond flag (b + unitOf k * n) b)
 room-step {v} k false b n r = rw (block-stays k v) r
 room-step {v} theIndex true b n r =

@@ -57,8 +57,9 @@ module _ {x₀ : List ℕ} {v : View} {d : ℕ} {t : List ℕ} (b : List ℕ) (l
     (off : Apart d (length t) (v .layout .namelist) (64 * v .layout .segments)) (even : v .layout .namelist % 8 ≡ 0) (name : Named b)
     (fits : length (flat (v .names)) + length b + 1 ≤ 64 * v .layout .segments) where
   -- after its last store the name is in the list
-  named-stage : {x y : List ℕ} {lo hi : ℕ} → Stage x₀ v d t x → Over x (flat (v .names) ++ b) (v .layout .namelist) lo hi y → v .layout .namelist ≤ lo →
-      lo ≤ namesEnd v → namesEnd v + length b ≤ hi → hi ≤ namelistEnd (v .layout) → Stage x₀ (withNames v (v .names ++ b ∷ [])) d t y
+  named-stage : {x y : List ℕ} {lo hi : ℕ} → Stage x₀ v d t x → Over x (flat (v .names) ++ b) (v .layout .namelist) lo hi y →
+      v .layout .namelist ≤ lo → lo ≤ namesEnd v → namesEnd v + length b ≤ hi → hi ≤ namelistEnd (v .layout) →
+      Stage x₀ (withNames v (v .names ++ b ∷ [])) d t y
   named-stage {x} {y} s o above below behind inside = restage low off relaid s
     where
       relaid : Relaid v x y (v .layout) (v .names ++ b ∷ [])
