@@ -11,15 +11,15 @@ use Rattle.gsd_format.specs.declared.Layout.{Layout}
 use Rattle.gsd_format.specs.Bytes.{le, leBytes, part}
 use Rattle.gsd_format.specs.Header.{layoutOf}
 use Rattle.gsd_format.specs.Names.{flat}
-use Rattle.gsd_format.proofs.Bytes.{le-same, le-text, leBytes-length, part-same}
+use Rattle.gsd_format.proofs.Bytes.{Apart, le-same, le-text, leBytes-length, part-same}
 use Rattle.gsd_stores.specs.Stores.{words, up}
-use Rattle.gsd_stores.specs.View.{View, namelistEnd}
+use Rattle.gsd_stores.specs.View.{View}
 use Rattle.gsd_stores.specs.Steps.{moved}
 use Rattle.gsd_stores.proofs.Stores.{Over, over-off}
 use Rattle.gsd_stores.proofs.Phases.{Phase, phase-nil, phase-one, _⨾_}
-use Rattle.gsd_stores.proofs.View.{withNameBlock, withIndexBlock, is-long, free-behind, Room, Shows, Stage, stage-behind, phase-quiet}
-use Rattle.gsd_stores.proofs.Blocks.{Filled, filled-text, Block, theIndex, theNames, unitOf, startIn, countIn, listIn, Housed, housed-kept, stage-housed}
-use Rattle.gsd_stores.proofs.Blocks.{Relaid, restage}
+use Rattle.gsd_stores.proofs.View.{indexLaid, namesLaid, withIndexBlock, withNameBlock, is-long, free-behind, Room, room-laid, Shows, Stage, stage-behind, phase-quiet}
+use Rattle.gsd_stores.proofs.Blocks.{Filled, filled-text, Block, theIndex, theNames, unitOf, startIn, countIn, listIn}
+use Rattle.gsd_stores.proofs.Blocks.{Housed, housed-kept, stage-housed, Relaid, restage}
 
 -- the header's place for where the block begins; its count stands in the next word
 abbrev pub headerPlace : Block → ℕ
@@ -27,8 +27,8 @@ headerPlace theIndex = 8
 headerPlace theNames = 24
 
 abbrev pub laid : Block → Layout → ℕ → ℕ → Layout
-laid theIndex l b n = record { len = l .len; index = b; slots = n; namelist = l .namelist; segments = l .segments }
-laid theNames l b n = record { len = l .len; index = l .index; slots = l .slots; namelist = b; segments = n }
+laid theIndex = indexLaid
+laid theNames = namesLaid
 
 -- v with the block elsewhere
 abbrev pub withBlock : Block → View → ℕ → ℕ → View
@@ -103,7 +103,8 @@ units-more theNames s n l = omega arith
 
 -- the new block is one of an image that shows v, with any count from the old one to the new one
 housed-moved : {x₀ : List ℕ} {v : View} {d : ℕ} {t : List ℕ} {x : List ℕ} (k : Block) (b s n : ℕ) → Stage x₀ v d t x → Room v d (length t) b →
-    countIn k (v .layout) ≤ s → s ≤ n → b + unitOf k * n ≤ v .layout .len → Filled x b (unitOf k * n) (listIn k x v) → Housed v x b (unitOf k * s) (listIn k x v)
+    countIn k (v .layout) ≤ s → s ≤ n → b + unitOf k * n ≤ v .layout .len → Filled x b (unitOf k * n) (listIn k x v) →
+    Housed v x b (unitOf k * s) (listIn k x v)
 housed-moved {v} k b s n stage room low high fits f = record {
   low = omega arith;
   high = omega (arith, units-more k s n high);
@@ -112,41 +113,29 @@ housed-moved {v} k b s n stage room low high fits f = record {
   filled = λ p l m. f p l (omega (arith, units-more k s n high));
 }
 
+-- with the header's two words it is the block, and the other one stays
 relaid : {x₀ : List ℕ} {v : View} {d : ℕ} {t : List ℕ} {x y : List ℕ} (k : Block) {b s : ℕ} → Stage x₀ v d t x → Room v d (length t) b →
     Housed v x b (unitOf k * s) (listIn k x v) → Headed k x y b s → Relaid v x y (laid k (v .layout) b s) (v .names)
 relaid {v} {x} {y} k {b} {s} stage room new h =
-    go k (housed-kept (λ p l m. behind p (omega arith)) new) (headed-layout k h ∙ ap (λ l. laid k l b s) (stage .base .is .layout))
+    let blocks = both k (kept new) in record {
+      long = h .long;
+      outside = λ p f g. h .outside p (λ c e. f (omega (arith, in-layout k)) (omega (arith, in-layout k)));
+      layout = headed-layout k h ∙ ap (λ l. laid k l b s) (stage .base .is .layout);
+      apart = blocks .0;
+      index = blocks .1;
+      names = blocks .2;
+      good = stage .base .is .names .good;
+      more = omega arith;
+    }
   where
-    behind : (p : ℕ) → 40 ≤ p → getD y p 0 ≡ getD x p 0
-    behind p l = h .outside p (λ c e. omega (arith, in-layout k))
+    kept : {a n : ℕ} {list : List ℕ} → Housed v x a n list → Housed v y a n list
+    kept q = housed-kept (λ p l m. h .outside p (λ c e. omega (arith, in-layout k))) q
 
-    outside : (p : ℕ) → (8 ≤ p → p < 40 → ⊥) → (v .layout .namelist ≤ p → p < namelistEnd (v .layout) → ⊥) → getD y p 0 ≡ getD x p 0
-    outside p f g = h .outside p (λ c e. f (omega (arith, in-layout k)) (omega (arith, in-layout k)))
-
-    stays : (k : Block) → Housed v y (startIn k (v .layout)) (unitOf k * countIn k (v .layout)) (listIn k x v)
-    stays k = housed-kept (λ p l m. behind p (omega (arith, stage-housed k stage .low))) (stage-housed k stage)
-
-    go : (k : Block) → Housed v y b (unitOf k * s) (listIn k x v) → layoutOf y ≡ laid k (v .layout) b s → Relaid v x y (laid k (v .layout) b s) (v .names)
-    go theIndex new e = record {
-      long = h .long;
-      outside = outside;
-      layout = e;
-      apart = λ p i j c e. omega arith;
-      index = new;
-      names = stays theNames;
-      good = stage .base .is .names .good;
-      more = omega arith;
-    }
-    go theNames new e = record {
-      long = h .long;
-      outside = outside;
-      layout = e;
-      apart = λ p i j c e. omega arith;
-      index = stays theIndex;
-      names = new;
-      good = stage .base .is .names .good;
-      more = omega arith;
-    }
+    both : (k : Block) → Housed v y b (unitOf k * s) (listIn k x v) → let l : Layout = laid k (v .layout) b s in
+        Apart (l .index) (32 * l .slots) (l .namelist) (64 * l .segments)
+        × Housed v y (l .index) (32 * l .slots) (listIn theIndex x v) × Housed v y (l .namelist) (64 * l .segments) (flat (v .names))
+    both theIndex q = (λ p c e f g. omega arith, q, kept (stage-housed theNames stage))
+    both theNames q = (λ p c e f g. omega arith, kept (stage-housed theIndex stage), q)
 
 -- a stage whose new block is filled with the text
 pub record Copied (x₀ : List ℕ) (v : View) (d : ℕ) (t : List ℕ) (b n : ℕ) (text x : List ℕ) : Type 0 where
@@ -170,7 +159,7 @@ module _ {x₀ : List ℕ} {v : View} {d : ℕ} {t : List ℕ} (k : Block) (b n 
       = housed-moved k b s n stage room low high fits (rw (lists (p .old) stage) (p .copied .filled)) in
       restage (room .low) (room .offNames) (relaid k stage room new (p .headed)) stage
 
-  -- before each store of the new block, and before the two words of the header
+  -- the image shows v while the block is copied, then the new place with the old count, and at last the new count
   pub move-block : {W : List ℕ → Type 0} → Shows x₀ W v → Shows x₀ W (withBlock k v b (countIn k (v .layout))) →
       Phase (Stage x₀ v d t) (Stage x₀ (withBlock k v b n) d t) W (moved true b (wordsIn k * n) text (headerPlace k) n)
   unfolding moved
@@ -186,17 +175,25 @@ module _ {x₀ : List ℕ} {v : View} {d : ℕ} {t : List ℕ} (k : Block) (b n 
           (words (leBytes 8 b) (headerPlace k) (up (headerPlace k) 1))
       start =
           phase-one (leBytes 8 b) (headerPlace k) (λ x c. omega (arith, in-layout k)) (λ x c. before x (c .stage .base))
-          (λ x c y o. record { old = x; copied = c; headed = headed-start (omega (arith, is-long (c .stage .base .is))) (old-count k x ∙ ap (countIn k) (c .stage .base .is .layout)) o })
+          (λ x c y o. record {
+            old = x;
+            copied = c;
+            headed = headed-start (omega (arith, is-long (c .stage .base .is))) (old-count k x ∙ ap (countIn k) (c .stage .base .is .layout)) o;
+          })
 
       count : Phase (Placed x₀ v d t k b n text (countIn k (v .layout))) (Stage x₀ (withBlock k v b n) d t) W
           (words (leBytes 8 n) (headerPlace k + 8) (up (headerPlace k + 8) 1))
       count =
           phase-one (leBytes 8 n) (headerPlace k + 8) (λ x p. omega (arith, in-layout k)) (λ x p. between x (placed-stage (omega arith) more p .base))
-          (λ x p y o. placed-stage more (omega arith) (record { old = p .old; copied = p .copied; headed = headed-count (omega (arith, unit-words k n, is-long (p .copied .stage .base .is))) (p .headed) o }))
+          (λ x p y o. placed-stage more (omega arith) (record {
+            old = p .old;
+            copied = p .copied;
+            headed = headed-count (omega (arith, unit-words k n, is-long (p .copied .stage .base .is))) (p .headed) o;
+          }))
 
 -- The steps: the block moves if the flag says so
 
--- the view afterwards, and the position behind it
+-- the view afterwards
 abbrev pub ifMoved : Block → Bool → View → ℕ → ℕ → View
 ifMoved k flag v b n = withBlock k v (cond flag b (startIn k (v .layout))) (cond flag n (countIn k (v .layout)))
 
@@ -212,27 +209,13 @@ unfolding moved
 move-step k true b n text room more fits lists before between = move-block k b n text room more fits lists before between
 move-step {v} k false b n text room more fits lists before between = rw (block-stays k v) phase-nil
 
--- the position behind the data and the blocks
+-- and the room behind it
 pub room-step : {v : View} {d m : ℕ} (k : Block) (flag : Bool) (b n : ℕ) → Room v d m b → Room (ifMoved k flag v b n) d m (cond flag (b + unitOf k * n) b)
 room-step {v} k false b n r = rw (block-stays k v) r
-room-step theIndex true b n r = record {
-  low = r .low;
-  index = omega arith;
-  names = omega arith;
-  chunks = λ i l. omega (arith, r .chunks i l);
-  body = omega arith;
-  offIndex = λ p i j c e. omega arith;
-  offNames = r .offNames;
-}
-room-step theNames true b n r = record {
-  low = r .low;
-  index = omega arith;
-  names = omega arith;
-  chunks = λ i l. omega (arith, r .chunks i l);
-  body = omega arith;
-  offIndex = r .offIndex;
-  offNames = λ p i j c e. omega arith;
-}
+room-step {v} theIndex true b n r =
+    room-laid r (laid theIndex (v .layout) b n) (v .names) (b + 32 * n) (omega arith) (omega arith) (omega arith) (λ p c e f g. omega arith) (r .offNames)
+room-step {v} theNames true b n r =
+    room-laid r (laid theNames (v .layout) b n) (v .names) (b + 64 * n) (omega arith) (omega arith) (omega arith) (r .offIndex) (λ p c e f g. omega arith)
 
 module _ {x₀ : List ℕ} {W : List ℕ → Type 0} {v : View} {d : ℕ} {t : List ℕ} (flag : Bool) (b n : ℕ) (room : Room v d (length t) b) where
   pub names-step : v .layout .segments ≤ cond flag n (v .layout .segments) → cond flag (b + 64 * n) b ≤ v .layout .len →

@@ -11,7 +11,7 @@ use Rattle.gsd_format.specs.Header.{headerSize}
 use Rattle.gsd_format.specs.Names.{flat}
 use Rattle.gsd_format.proofs.Lists.{Each, each-append}
 use Rattle.gsd_format.proofs.Bytes.{Apart}
-use Rattle.gsd_format.proofs.Names.{Named, flat-none, flat-append, flat-size, flat-more}
+use Rattle.gsd_format.proofs.Names.{Named, flat-append, flat-size, flat-more}
 use Rattle.gsd_format.proofs.Verdict.{layout-same}
 use Rattle.gsd_stores.specs.View.{View, namesEnd, namelistEnd}
 use Rattle.gsd_stores.specs.Steps.{storeName, storeNames}
@@ -57,8 +57,9 @@ module _ {x₀ : List ℕ} {v : View} {d : ℕ} {t : List ℕ} (b : List ℕ) (l
     (off : Apart d (length t) (v .layout .namelist) (64 * v .layout .segments)) (even : v .layout .namelist % 8 ≡ 0) (name : Named b)
     (fits : length (flat (v .names)) + length b + 1 ≤ 64 * v .layout .segments) where
   -- after its last store the name is in the list
-  named-stage : {x y : List ℕ} {lo hi : ℕ} → Stage x₀ v d t x → Over x (flat (v .names) ++ b) (v .layout .namelist) lo hi y → v .layout .namelist ≤ lo →
-      lo ≤ namesEnd v → namesEnd v + length b ≤ hi → hi ≤ namelistEnd (v .layout) → Stage x₀ (withNames v (v .names ++ b ∷ [])) d t y
+  named-stage : {x y : List ℕ} {lo hi : ℕ} → Stage x₀ v d t x → Over x (flat (v .names) ++ b) (v .layout .namelist) lo hi y →
+      v .layout .namelist ≤ lo → lo ≤ namesEnd v → namesEnd v + length b ≤ hi → hi ≤ namelistEnd (v .layout) →
+      Stage x₀ (withNames v (v .names ++ b ∷ [])) d t y
   named-stage {x} {y} s o above below behind inside = restage low off relaid s
     where
       relaid : Relaid v x y (v .layout) (v .names ++ b ∷ [])

@@ -24,20 +24,19 @@ use Rattle.gsd_stores.specs.View.{View, viewOf, indexEnd, namelistEnd, e
 use Rattle.gsd_stores.proofs.Stores.{Over, between, over-off}
 use Rattle.gsd_stores.proofs.Phases.{Phase, phase-up}
 
--- v with the name block or the index block elsewhere, with other names, with more entries
-abbrev pub withNameBlock : View → ℕ → ℕ → View
-withNameBlock v b n = record {
-  layout = record { len = v .layout .len; index = v .layout .index; slots = v .layout .slots; namelist = b; segments = n };
-  entries = v .entries;
-  names = v .names;
-}
+-- the index block or the name block elsewhere
+abbrev pub indexLaid : Layout → ℕ → ℕ → Layout
+indexLaid l b n = record { len = l .len; index = b; slots = n; namelist = l .namelist; segments = l .segments }
 
+abbrev pub namesLaid : Layout → ℕ → ℕ → Layout
+namesLaid l b n = record { len = l .len; index = l .index; slots = l .slots; namelist = b; segments = n }
+
+-- v with a block elsewhere, with other names, with more entries
 abbrev pub withIndexBlock : View → ℕ → ℕ → View
-withIndexBlock v b n = record {
-  layout = record { len = v .layout .len; index = b; slots = n; namelist = v .layout .namelist; segments = v .layout .segments };
-  entries = v .entries;
-  names = v .names;
-}
+withIndexBlock v b n = record { layout = indexLaid (v .layout) b n; entries = v .entries; names = v .names }
+
+abbrev pub withNameBlock : View → ℕ → ℕ → View
+withNameBlock v b n = record { layout = namesLaid (v .layout) b n; entries = v .entries; names = v .names }
 
 abbrev pub withNames : View → List (List ℕ) → View
 withNames v ns = record { layout = v .layout; entries = v .entries; names = ns }
