@@ -16,7 +16,7 @@ use Rattle.gsd_stores.proofs.Stores.{between, over-off}
 use Rattle.gsd_stores.proofs.Phases.{Phase}
 use Rattle.gsd_stores.proofs.View.{Is, Free, free-index, free-names, free-behind, Room, Base, Shows, IndexClear, Stage, phase-quiet}
 
--- where step 1 writes: zeros where the lists end and their names before it, free places elsewhere
+-- where step 1 writes, the byte stands there already or its place is free
 cleared-index : {v : View} {x : List ℕ} → Is x v → (p : ℕ) → entriesEnd v ≤ p → p < indexEnd (v .layout) → (0 ≡ getD x p 0) ⊎ Free v p
 cleared-index {v} {x} h p a b = elim (between (entriesEnd v + 16) (entriesEnd v + 24) p) [
   | inl c ↦

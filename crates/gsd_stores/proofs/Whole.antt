@@ -1,5 +1,5 @@
 -- The whole append: from an image that shows v, by a good plan, every moment before the last store shows v with some of the new names,
--- its blocks where they were or moved; the last one shows the planned view.
+-- its blocks where they were or moved; after the last store all new entries are listed.
 use Prim.Native.Nat.{ℕ, _+_, _*_, _%_, _≤_}
 use mathlib.Core.Path.{_≡_, refl, sym, _∙_, ap}
 use mathlib.Core.Bool.{Bool, true, false, cond}
