@@ -2,7 +2,6 @@
 -- the slice, and the new entries are sound in the view that the moves lead to.
 use Prim.Native.Nat.{ℕ, _+_, _*_, _%_, _≤_, _<_}
 use mathlib.Core.Path.{_≡_}
-use mathlib.Core.Bool.{cond}
 use mathlib.Core.List.{_++_}
 use lib.ListN.{length, getD}
 use Rattle.gsd_format.specs.Names.{flat}
@@ -14,14 +13,8 @@ use Rattle.gsd_format.proofs.Verdict.{AllSound}
 use Rattle.gsd_stores.specs.View.{View}
 use Rattle.gsd_stores.specs.Plan.{Plan, finalPosition}
 use Rattle.gsd_stores.specs.Steps.{nameBlock, indexBlock}
+use Rattle.gsd_stores.proofs.Plan.{segmentsAfter, slotsAfter}
 use Rattle.gsd_stores.proofs.View.{withNameBlock, withIndexBlock, withNames, Room}
-
--- the segments and the slots after steps 3 and 5
-abbrev pub segmentsAfter : View → Plan → ℕ
-segmentsAfter v p = cond (p .namesMove) (p .segments) (v .layout .segments)
-
-abbrev pub slotsAfter : View → Plan → ℕ
-slotsAfter v p = cond (p .indexMoves) (p .slots) (v .layout .slots)
 
 -- the view after step 3, after step 4 and after step 5
 abbrev pub roomy : View → Plan → View
