@@ -2,3 +2,4 @@
 pub mod Refusals
 pub mod Bytes
 pub mod Types
+pub mod Create
