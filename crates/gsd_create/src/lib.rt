@@ -19,10 +19,10 @@ const DEFAULT_SLOTS: u64 = 64;
 
 const DEFAULT_SEGMENTS: u64 = 16;
 
-const MOST_SLOTS: u64 = 65536;
+// Slots, and segments.
+const MOST: u64 = 65536;
 
-const MOST_SEGMENTS: u64 = 65536;
-
+// Bytes of a text.
 const MOST_TEXT: usize = 63;
 
 fn or_default(n: u64, usual: u64) -> u64
@@ -49,10 +49,10 @@ fn create_test(len: usize, application: &[u8], schema: &[u8], slots: u64, segmen
     if GREATEST_LENGTH < len {
         return 2;
     }
-    if MOST_SLOTS < slots {
+    if MOST < slots {
         return 50;
     }
-    if MOST_SEGMENTS < segments {
+    if MOST < segments {
         return 50;
     }
     if bad_text(application) {
