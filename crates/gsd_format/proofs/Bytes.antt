@@ -116,6 +116,22 @@ pub le-two : (s : List ℕ) (i : ℕ) → le 2 s i ≡ getD s i 0 + 256 * getD s
 unfolding le
 le-two s i = omega arith
 
+-- a number is 0 exactly when its bytes are
+pub le-zero : (n : ℕ) (x : List ℕ) (a : ℕ) → le n x a ≡ 0 → (k : ℕ) → k < n → getD x (a + k) 0 ≡ 0
+unfolding le
+le-zero zero x a h k l = omega arith
+le-zero (suc n) x a h zero l = rw add-zero (omega arith)
+le-zero (suc n) x a h (suc k) l = ap (λ i. getD x i 0) (let e : a + suc k ≡ a + 1 + k = omega arith in e) ∙ le-zero n x (a + 1) (omega arith) k (omega arith)
+
+pub zero-le : (n : ℕ) (x : List ℕ) (a : ℕ) → ((k : ℕ) → k < n → getD x (a + k) 0 ≡ 0) → le n x a ≡ 0
+unfolding le
+zero-le zero x a h = refl
+zero-le (suc n) x a h =
+    let e : getD x a 0 ≡ 0 = ap (λ i. getD x i 0) (sym (add-zero a)) ∙ h 0 (omega arith) in
+    let f : le n x (a + 1) ≡ 0 = zero-le n x (a + 1) (λ k l. ap (λ i. getD x i 0) (let e : a + 1 + k ≡ a + suc k = omega arith in e) ∙ h (suc k) (omega arith)) in
+    omega arith
+
+-- numbers of four and eight bytes by their halves
 pub le-four : (s : List ℕ) (i : ℕ) → le 4 s i ≡ le 2 s i + 65536 * le 2 s (i + 2)
 unfolding le
 le-four s i = simp add-assoc (omega arith)

@@ -1,5 +1,12 @@
 -- Laws of reading: what each definition depends on, and its equations.
+pub mod Lists
 pub mod Refusals
 pub mod Bytes
+pub mod Texts
+pub mod Ids
+pub mod Names
+pub mod Entries
+pub mod Verdict
+pub mod Lookup
 pub mod Types
 pub mod Create

@@ -1,5 +1,5 @@
 -- Each answer's number in the format's table, 0 for no refusal, and the values it carries, as the C interface hands them out.
-use Prim.Native.Nat.{ℕ, _+_, _-_, _^_}
+use Prim.Native.Nat.{ℕ, _-_, _^_}
 use mathlib.Core.List.{List, [], _∷_}
 use lib.IntN.{ℤ, pos, negsuc}
 use Rattle.gsd_format.specs.declared.Opening.{Opening}

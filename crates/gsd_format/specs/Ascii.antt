@@ -2,7 +2,6 @@
 use Prim.Native.Nat.{ℕ}
 use Prim.Native.String.{String, [], _∷_}
 use Prim.Native.Char.{code}
-use mathlib.Core.List as Core
 use mathlib.Core.List.{List}
 
 unfoldable pub ascii : String → List ℕ

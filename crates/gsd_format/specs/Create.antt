@@ -1,9 +1,9 @@
 -- A fresh image: header, an empty index block at 256, an empty name block straight after; and create's numbers.
 use Prim.Native.Nat.{ℕ, zero, suc, _+_, _*_, _-_}
 use mathlib.Core.List.{List, _++_}
-use mathlib.Core.Bool.{Bool, true, false, _||_}
+use mathlib.Core.Bool.{Bool, _||_}
 use lib.ListN.{length, drop}
-use lib.Dec.{ltb, eqb}
+use lib.Dec.{ltb}
 use Rattle.gsd_format.specs.Bytes.{leBytes, zeroIn, zeros}
 use Rattle.gsd_format.specs.Refusals.{_⇒_, _▹_}
 use Rattle.gsd_format.specs.Header.{magic, version, headerSize, greatestLength}

@@ -1,5 +1,5 @@
 -- Elements: the k-th of a chunk, read by the chunk's type, with its exact bits; 43 after the lookup's numbers.
-use Prim.Native.Nat.{ℕ, zero, suc, _+_, _*_, _-_, _/_, _^_}
+use Prim.Native.Nat.{ℕ, _+_, _*_, _-_, _/_, _^_}
 use mathlib.Core.List.{List}
 use mathlib.Core.Bool.{true, false}
 use lib.Dec.{ltb, leb, eqb}

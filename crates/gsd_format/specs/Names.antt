@@ -2,10 +2,9 @@
 -- It ends at the first name that would start with zero, or at the end of the block. The n-th name has id n.
 use Prim.Native.Nat.{ℕ, zero, suc, _+_, _*_, _-_}
 use mathlib.Core.List.{List, [], _∷_, _++_, map}
-use mathlib.Core.Bool.{Bool, true, false}
-use lib.ListN.{getD, length}
+use mathlib.Core.Bool.{true, false}
+use lib.ListN.{getD}
 use lib.Dec.{eqb}
-use Rattle.gsd_format.specs.declared.Layout.{Layout}
 use Rattle.gsd_format.specs.declared.Part.{Part}
 use Rattle.gsd_format.specs.Bytes.{part, same}
 use Rattle.gsd_format.specs.Header.{layoutOf}

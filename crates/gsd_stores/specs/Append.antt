@@ -4,13 +4,12 @@ use mathlib.Core.List.{List, []}
 use mathlib.Core.Bool.{not, _||_}
 use lib.ListN.{length, take}
 use lib.Dec.{ltb, eqb}
-use Rattle.gsd_format.specs.declared.Layout.{Layout}
 use Rattle.gsd_format.specs.Refusals.{_⇒_, _▹_}
 use Rattle.gsd_format.specs.Opening.{verdict, mostNames}
 use Rattle.gsd_stores.specs.declared.Appended.{Appended}
 use Rattle.gsd_stores.specs.Sheet.{sheetTest, rowsOf}
 use Rattle.gsd_stores.specs.Stores.{Store, after}
-use Rattle.gsd_stores.specs.View.{View, viewOf}
+use Rattle.gsd_stores.specs.View.{viewOf}
 use Rattle.gsd_stores.specs.Plan.{planOf, newNames, finalPosition}
 use Rattle.gsd_stores.specs.Steps.{storeList}
 

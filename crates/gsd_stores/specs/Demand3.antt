@@ -7,7 +7,6 @@ use mathlib.Core.Bool.{true}
 use mathlib.Core.List.{List, []}
 use lib.ListN.{getD, length}
 use Rattle.gsd_format.specs.declared.Entry.{Entry}
-use Rattle.gsd_format.specs.declared.Layout.{Layout}
 use Rattle.gsd_format.specs.declared.Listed.{Listed}
 use Rattle.gsd_format.specs.Bytes.{part}
 use Rattle.gsd_format.specs.Header.{layoutOf}

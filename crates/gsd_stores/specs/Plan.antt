@@ -5,7 +5,6 @@ use mathlib.Core.Bool.{Bool, true, false, cond}
 use lib.ListN.{length}
 use lib.Dec.{ltb, leb}
 use Rattle.gsd_format.specs.declared.Entry.{Entry}
-use Rattle.gsd_format.specs.declared.Layout.{Layout}
 use Rattle.gsd_format.specs.Bytes.{zeros, roundUp}
 use Rattle.gsd_format.specs.Names.{flat, indexOf}
 use Rattle.gsd_format.specs.Entries.{framesOf}

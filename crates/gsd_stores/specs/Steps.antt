@@ -4,7 +4,6 @@ use mathlib.Core.List.{List, [], _∷_, _++_}
 use mathlib.Core.Bool.{Bool, true, false, cond}
 use lib.ListN.{length}
 use Rattle.gsd_format.specs.declared.Entry.{Entry}
-use Rattle.gsd_format.specs.declared.Layout.{Layout}
 use Rattle.gsd_format.specs.Bytes.{leBytes, part}
 use Rattle.gsd_format.specs.Names.{flat}
 use Rattle.gsd_stores.specs.Stores.{Store, words, up, down, slotsDown}

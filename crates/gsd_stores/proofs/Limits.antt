@@ -1,0 +1,51 @@
+-- What an append's limit and its refusal do: a refused append changes nothing and reports 0 and 0, limit 0 changes nothing, and
+-- the image after k stores of a call is what the same call with limit k leaves.
+use Prim.Native.Nat.{ℕ, suc, _≤_, min}
+use mathlib.Core.Path.{_≡_, sym, _∙_, ap}
+use mathlib.Core.List.{List, []}
+use native.Mathlib.Decide.{decLe}
+use native.Mathlib.Omega.{arith}
+use lib.ListN.{length, take}
+use lib.Seq.{take-all, take-nil}
+use Rattle.gsd_stores.specs.Stores.{Store, after}
+use Rattle.gsd_stores.specs.Append.{appendTest, storesFor, appendAnswer, appended}
+
+stores-none : (x s : List ℕ) (n : ℕ) → appendTest x s ≡ suc n → storesFor x s ≡ []
+unfolding storesFor
+stores-none x s n e = rw (e, storesFor)
+
+take-done : (l : List Store) (k : ℕ) → take (min k (length l)) l ≡ take k l
+take-done l k = go (decLe k (length l))
+  where
+    go : Dec (k ≤ length l) → take (min k (length l)) l ≡ take k l
+    go (yes h) = let e : min k (length l) ≡ k = omega arith in ap (λ n. take n l) e
+    go (no h) = take-all (min k (length l)) l (omega arith) ∙ sym (take-all k l (omega arith))
+
+-- the image after k stores of a call is what the same call with limit k leaves
+pub stopped : (x s : List ℕ) (k : ℕ) → after x (take k (storesFor x s)) ≡ appended x s k
+unfolding appended
+stopped x s k = ap (after x) (sym (take-done (storesFor x s) k))
+
+-- a refused append changes no byte, whatever its limit
+pub refused-image : (x s : List ℕ) (limit n : ℕ) → appendTest x s ≡ suc n → appended x s limit ≡ x
+unfolding appended after
+refused-image x s limit n e = rw (stores-none x s n e, take-nil)
+
+-- and reports its number, 0 and 0
+pub refused-answer : (x s : List ℕ) (limit n : ℕ) → appendTest x s ≡ suc n → appendAnswer x s limit ≡ record { number = suc n; done = 0; whole = 0 }
+unfolding appendAnswer
+refused-answer x s limit n e =
+    let none : length (storesFor x s) ≡ 0 = ap length (stores-none x s n e) in
+    let done : min limit (length (storesFor x s)) ≡ 0 = omega arith in
+    λ i. record { number = e i; done = done i; whole = none i }
+
+-- limit 0 changes nothing, and is no refusal: the whole count is answered
+pub none-image : (x s : List ℕ) → appended x s 0 ≡ x
+unfolding after
+none-image x s = sym (stopped x s 0)
+
+pub none-answer : (x s : List ℕ) → appendAnswer x s 0 ≡ record { number = appendTest x s; done = 0; whole = length (storesFor x s) }
+unfolding appendAnswer
+none-answer x s =
+    let done : min 0 (length (storesFor x s)) ≡ 0 = omega arith in
+    λ i. record { number = appendTest x s; done = done i; whole = length (storesFor x s) }

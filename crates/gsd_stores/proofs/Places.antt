@@ -1,0 +1,154 @@
+-- Where stores lie: at a multiple of 8 inside the slice, and outside the header but for its words 8, 16, 24 and 32.
+use Prim.Native.Nat.{ℕ, _+_, _*_, _-_, _/_, _%_, _≤_, _<_}
+use mathlib.Core.Path.{_≡_, refl, ap}
+use mathlib.Core.Logic.{_⊎_, inl, inr}
+use mathlib.Core.Bool.{Bool, true, false, cond}
+use mathlib.Core.List.{List, [], _∷_, _++_}
+use native.Mathlib.Omega.{arith}
+use lib.ListN.{length}
+use Rattle.gsd_format.specs.Bytes.{leBytes, part}
+use Rattle.gsd_format.specs.Header.{headerSize}
+use Rattle.gsd_format.specs.Names.{flat}
+use Rattle.gsd_format.proofs.Lists.{Each, each-append}
+use Rattle.gsd_format.proofs.Names.{Named, flat-none, flat-size, flat-sizes}
+use Rattle.gsd_stores.specs.Stores.{Store, words, up}
+use Rattle.gsd_stores.specs.View.{View, viewOf, entriesEnd, namesEnd, namelistEnd}
+use Rattle.gsd_stores.specs.Sheet.{Row, rowsOf}
+use Rattle.gsd_stores.specs.Plan.{Plan, planOf, dataEnd, namesDone}
+use Rattle.gsd_stores.specs.Steps.{clearIndex, clearNames, storeData, moved, moveNames, storeName, storeNames, moveIndex, storeEntries, nameBlock, indexBlock, indexBytes, stepsOf}
+use Rattle.gsd_stores.specs.Append.{appendTest, storesFor}
+use Rattle.gsd_stores.specs.Runs.{Bytes}
+use Rattle.gsd_stores.proofs.Stores.{Fills, up-fills, down-fills, slots-fills, fills-stores}
+use Rattle.gsd_stores.proofs.View.{Is, is-long}
+use Rattle.gsd_stores.proofs.Plan.{positions, positions-even, chosen, segmentsAfter}
+use Rattle.gsd_stores.proofs.Valid.{Valid, valid, Ready, ready}
+use Rattle.gsd_stores.proofs.Shown.{opens-shown}
+use Rattle.gsd_stores.proofs.Moments.{stores-are}
+
+-- the words of the header that an append stores
+abbrev pub HeaderWord : ℕ → Type 0
+HeaderWord a = (a ≡ 8) ⊎ ((a ≡ 16) ⊎ ((a ≡ 24) ⊎ (a ≡ 32)))
+
+-- a store in a slice of so many bytes
+pub record Placed (len : ℕ) (s : Store) : Type 0 where
+  pub aligned : s .place % 8 ≡ 0
+  pub inside : s .place + 8 ≤ len
+  pub outside : s .place < headerSize → HeaderWord (s .place)
+
+-- all stores of a list do
+pub record AllPlaced (len : ℕ) (xs : List Store) : Type 0 where
+  pub each : Each (Placed len) xs
+
+infixl 20 _⊹_
+_⊹_ : {len : ℕ} {xs ys : List Store} → AllPlaced len xs → AllPlaced len ys → AllPlaced len (xs ++ ys)
+_⊹_ {len} {xs} {ys} h g = record { each = each-append (Placed len) xs ys (h .each) (g .each) }
+
+-- words behind the header
+placed-run : {lo n : ℕ} {l : List ℕ} (len : ℕ) → Fills lo n l → (t : List ℕ) (base : ℕ) → lo % 8 ≡ 0 → headerSize ≤ lo → lo + 8 * n ≤ len → AllPlaced len (words t base l)
+placed-run len f t base e h g = record {
+  each = fills-stores (Placed len) f t base (λ k l. record { aligned = omega arith; inside = omega arith; outside = λ o. absurd (omega arith) });
+}
+
+placed-word : (len : ℕ) (t : List ℕ) (a : ℕ) → headerSize ≤ len → a % 8 ≡ 0 → a ≤ 32 → HeaderWord a → AllPlaced len (words t a (up a 1))
+unfolding words up
+placed-word len t a h e b w = record { each = (record { aligned = e; inside = omega arith; outside = λ o. w }, tt) }
+
+taken : (t : Bool) (a b : ℕ) → t ≡ true → cond t a b ≡ a
+taken t a b e = rw e
+
+-- a block that moves, and its two header words
+placed-moved : (flag : Bool) (len b n : ℕ) (t : List ℕ) (h count : ℕ) → b % 8 ≡ 0 → headerSize ≤ b → (flag ≡ true → b + 8 * n ≤ len) → headerSize ≤ len →
+    h % 8 ≡ 0 → h ≤ 24 → HeaderWord h → HeaderWord (h + 8) → AllPlaced len (moved flag b n t h count)
+unfolding moved
+placed-moved false len b n t h count e l f g i j u w = record { each = tt }
+placed-moved true len b n t h count e l f g i j u w =
+    placed-run len (up-fills b n) t b e l (f refl)
+    ⊹ placed-word len (leBytes 8 b) h g i (omega arith) u
+    ⊹ placed-word len (leBytes 8 count) (h + 8) g (omega arith) (omega arith) w
+
+-- a name in a block that ends at hi
+placed-name : (len block hi : ℕ) (before name : List ℕ) → block % 8 ≡ 0 → headerSize ≤ block → hi % 8 ≡ 0 → hi ≤ len → 0 < length name →
+    block + length before + length name ≤ hi → AllPlaced len (storeName block before name)
+unfolding storeName
+placed-name len block hi before name e l h g s f =
+    let first : ℕ = block + length before in
+    placed-run len (down-fills (first / 8 * 8) ((first + length name - 1) / 8 - first / 8 + 1)) (before ++ name) block (omega arith) (omega arith) (omega arith)
+
+placed-names : (fresh names : List (List ℕ)) (len block hi : ℕ) → block % 8 ≡ 0 → headerSize ≤ block → hi % 8 ≡ 0 → hi ≤ len → Each Named fresh →
+    block + length (flat names) + length (flat fresh) ≤ hi → AllPlaced len (storeNames block names fresh)
+unfolding storeNames
+placed-names [] names len block hi e l h g n f = record { each = tt }
+placed-names (b ∷ bs) names len block hi e l h g n f =
+    let size : length (flat (b ∷ bs)) ≡ length b + 1 + length (flat bs) = flat-size b bs in
+    let more : length (flat (names ++ b ∷ [])) ≡ length (flat names) + length (flat (b ∷ [])) = flat-sizes names (b ∷ []) in
+    let one : length (flat (b ∷ [])) ≡ length b + 1 + length (flat []) = flat-size b [] in
+    let nil : length (flat []) ≡ 0 = ap length flat-none in
+    placed-name len block hi (flat names) b e l h g (n .0 .some) (omega arith)
+    ⊹ (placed-names bs (names ++ b ∷ []) len block hi e l h g (n .1) (omega arith))
+
+module _ (x : List ℕ) (rs : List Row) (ok : Valid x rs) where
+  abbrev v : View
+  v = viewOf x
+
+  abbrev p : Plan
+  p = planOf v rs
+
+  r : Ready v rs p
+  r = ready x rs ok
+
+  is : Is x v
+  is = opens-shown x (ok .opens)
+
+  index-placed : AllPlaced (v .layout .len) (clearIndex v)
+  unfolding clearIndex
+  index-placed =
+      placed-run (v .layout .len) (up-fills (entriesEnd v) (4 * (v .layout .slots - length (v .entries)))) [] 0
+      (omega (arith, r .evenIndex)) (omega (arith, is .blocks .indexLow)) (omega (arith, is .blocks .indexHigh, is .entries .few))
+
+  names-placed : AllPlaced (v .layout .len) (clearNames v)
+  unfolding clearNames
+  names-placed =
+      let first : ℕ = namesEnd v / 8 * 8 in
+      placed-run (v .layout .len) (up-fills first ((namelistEnd (v .layout) - first) / 8)) (flat (v .names)) (v .layout .namelist)
+      (omega arith) (omega (arith, r .evenNames, is .blocks .namelistLow)) (omega (arith, is .blocks .namelistHigh, is .names .few))
+
+  data-placed : AllPlaced (v .layout .len) (storeData p)
+  unfolding storeData
+  data-placed =
+      placed-run (v .layout .len) (up-fills (p .start) (length (p .body) / 8)) (p .body) (p .start)
+      (r .plan .room .even) (r .plan .room .header) (omega (arith, positions p .0, positions p .1, r .fits))
+
+  data-even : dataEnd p % 8 ≡ 0
+  data-even = positions-even v rs p (r .plan) .0
+
+  names-even : nameBlock v p % 8 ≡ 0
+  names-even = chosen (λ k. k % 8 ≡ 0) (p .namesMove) (dataEnd p) (v .layout .namelist) data-even (λ e. r .evenNames)
+
+  index-even : indexBlock v p % 8 ≡ 0
+  index-even = chosen (λ k. k % 8 ≡ 0) (p .indexMoves) (namesDone p) (v .layout .index) (positions-even v rs p (r .plan) .1) (λ e. r .evenIndex)
+
+  header : headerSize ≤ v .layout .len
+  header = omega (arith, is .blocks .indexLow, is .blocks .indexHigh)
+
+  pub all-placed : AllPlaced (v .layout .len) (stepsOf x v p)
+  unfolding stepsOf moveNames moveIndex storeEntries
+  all-placed =
+      let low : headerSize ≤ dataEnd p = omega (arith, r .plan .room .header) in
+      index-placed
+      ⊹ names-placed
+      ⊹ data-placed
+      ⊹ placed-moved (p .namesMove) (v .layout .len) (dataEnd p) (8 * p .segments) (flat (v .names)) 24 (p .segments) data-even low
+      (λ m. omega (arith, taken (p .namesMove) (dataEnd p + 64 * p .segments) (dataEnd p) m, positions p .1, r .fits)) header refl (omega arith) (inr (inr (inl refl))) (inr (inr (inr refl)))
+      ⊹ placed-names (p .fresh) (v .names) (v .layout .len) (nameBlock v p) (nameBlock v p + 64 * segmentsAfter v p) names-even (r .blocks .namelistLow)
+      (omega (arith, names-even)) (r .blocks .namelistHigh) (r .named) (omega (arith, r .plan .namesFit))
+      ⊹ placed-moved (p .indexMoves) (v .layout .len) (namesDone p) (4 * p .slots) (part x (v .layout .index) (32 * length (v .entries))) 8 (p .slots)
+      (positions-even v rs p (r .plan) .1) (omega (arith, positions p .0))
+      (λ m. omega (arith, taken (p .indexMoves) (namesDone p + 32 * p .slots) (namesDone p) m, r .fits)) header refl (omega arith) (inl refl) (inr (inl refl))
+      ⊹ placed-run (v .layout .len) (slots-fills (indexBlock v p + 32 * length (v .entries)) (length (p .entries))) (indexBytes (p .entries)) (indexBlock v p + 32 * length (v .entries))
+      (omega (arith, index-even)) (omega (arith, r .blocks .indexLow)) (omega (arith, r .blocks .indexHigh, r .plan .entriesFit))
+
+-- every store of an append lies at a multiple of 8 inside the slice, and outside the header but for its four words
+pub stores-placed : (x s : List ℕ) → Bytes s → appendTest x s ≡ 0 → AllPlaced (length x) (storesFor x s)
+stores-placed x s o h =
+    let ok : Valid x (rowsOf s) = valid x s o h in
+    rw (stores-are x s h, is-long (is x (rowsOf s) ok)) (all-placed x (rowsOf s) ok)

@@ -1,0 +1,89 @@
+-- The whole append: from an image that shows v, by a good plan, every moment before the last store shows v with some of the new names,
+-- its blocks where they were or moved; after the last store all new entries are listed.
+use Prim.Native.Nat.{ℕ, _+_, _*_, _%_, _≤_}
+use mathlib.Core.Path.{_≡_, refl, sym, _∙_, ap}
+use mathlib.Core.Bool.{Bool, true, false, cond}
+use mathlib.Core.List.{List, _++_, append-nil}
+use native.Mathlib.Omega.{arith}
+use lib.ListN.{length, take}
+use lib.Seq.{take-length}
+use Rattle.gsd_stores.specs.View.{View}
+use Rattle.gsd_stores.specs.Plan.{Plan, dataEnd, namesDone, finalPosition}
+use Rattle.gsd_stores.specs.Steps.{moveNames, moveIndex, nameBlock, stepsOf}
+use Rattle.gsd_stores.proofs.Phases.{Phase, _⨾_}
+use Rattle.gsd_stores.proofs.View.{withNameBlock, withIndexBlock, withNames, Is, is-long, Room, room-named, Base, Shows}
+use Rattle.gsd_stores.proofs.Blocks.{theIndex, theNames}
+use Rattle.gsd_stores.proofs.Good.{roomy, named, ready, Good}
+use Rattle.gsd_stores.proofs.Clear.{clear-index, clear-names, store-data}
+use Rattle.gsd_stores.proofs.Move.{room-step, names-step, index-step}
+use Rattle.gsd_stores.proofs.NewNames.{all-names}
+use Rattle.gsd_stores.proofs.NewEntries.{Final, store-entries}
+
+-- room behind the data
+pub room-data : {v : View} {d : ℕ} (m : ℕ) → Room v d 0 d → Room v d m (d + m)
+room-data m r = record {
+  low = r .low;
+  index = omega arith;
+  names = omega arith;
+  chunks = λ i l. omega (arith, r .chunks i l);
+  body = omega arith;
+  offIndex = λ p a b c e. omega arith;
+  offNames = λ p a b c e. omega arith;
+}
+
+cond-more : (move : Bool) (a n : ℕ) → a ≤ cond move (a + n) a
+cond-more false a n = omega arith
+cond-more true a n = omega arith
+
+cond-even : (move : Bool) (a b : ℕ) → a % 8 ≡ 0 → b % 8 ≡ 0 → cond move a b % 8 ≡ 0
+cond-even false a b h g = g
+cond-even true a b h g = h
+
+-- whatever shows v with the first so many of the new names, its blocks anywhere, is W
+abbrev pub AllShow : List ℕ → (List ℕ → Type 0) → View → Plan → Type 0
+AllShow x₀ W v p =
+    (u : View) (j : ℕ) → u .layout .len ≡ v .layout .len → u .entries ≡ v .entries → u .names ≡ v .names ++ take j (p .fresh) → Shows x₀ W u
+
+module _ {v : View} {p : Plan} (g : Good v p) where
+  names-fit : namesDone p ≤ v .layout .len
+  names-fit = omega (arith, cond-more (p .indexMoves) (namesDone p) (32 * p .slots))
+
+  data-fits : dataEnd p ≤ v .layout .len
+  data-fits = omega (arith, cond-more (p .namesMove) (dataEnd p) (64 * p .segments), names-fit)
+
+  room-before : Room v (p .start) (length (p .body)) (dataEnd p)
+  room-before = room-data (length (p .body)) (g .room)
+
+  room-roomy : Room (roomy v p) (p .start) (length (p .body)) (namesDone p)
+  room-roomy = room-step theNames (p .namesMove) (dataEnd p) (p .segments) room-before
+
+  room-names : Room (named v p) (p .start) (length (p .body)) (namesDone p)
+  room-names = room-named (v .names ++ p .fresh) room-roomy
+
+  room-ready : Room (ready v p) (p .start) (length (p .body)) (finalPosition p)
+  room-ready = room-step theIndex (p .indexMoves) (namesDone p) (p .slots) room-names
+
+  block-even : nameBlock v p % 8 ≡ 0
+  block-even = cond-even (p .namesMove) (dataEnd p) (v .layout .namelist) (omega arith) (g .namelistEven)
+
+  pub whole-append : {x₀ : List ℕ} {W : List ℕ → Type 0} → Is x₀ v → AllShow x₀ W v p →
+      Phase (Base x₀ v) (Final x₀ (ready v p) (p .entries) (p .start) (p .body)) W (stepsOf x₀ v p)
+  unfolding stepsOf moveNames moveIndex
+  whole-append {x₀} {W} h shows =
+      clear-index (before v refl refl refl)
+      ⨾ clear-names (before v refl refl refl) (p .start) (g .namelistEven)
+      ⨾ store-data (before v refl refl refl) p (g .room) (g .bodyEven) data-fits
+      ⨾ names-step (p .namesMove) (dataEnd p) (p .segments) room-before (g .moreSegments) names-fit
+      (before v refl refl refl) (before (withNameBlock v (dataEnd p) (v .layout .segments)) refl refl refl)
+      ⨾ all-names (roomy v p) (p .fresh) (g .room .low) (room-roomy .offNames) block-even (g .fresh) (g .namesFit)
+      (λ ns j. shows (withNames (roomy v p) ns) j refl refl)
+      ⨾ index-step (p .indexMoves) (namesDone p) (p .slots) room-names (v .layout .index) (ap (λ l. l .index) (h .layout)) (omega (arith, is-long h))
+      (g .moreSlots) (g .fits) (behind (named v p) refl refl refl) (behind (withIndexBlock (named v p) (namesDone p) (v .layout .slots)) refl refl refl)
+      ⨾ store-entries (behind (ready v p) refl refl refl) (p .entries) (p .start) (p .body) (g .entriesFit) (g .sound) (g .exact) (room-ready .offIndex)
+    where
+      -- views before the first new name and behind the last
+      before : (u : View) → u .layout .len ≡ v .layout .len → u .entries ≡ v .entries → u .names ≡ v .names → Shows x₀ W u
+      before u l e n = shows u 0 l e (n ∙ sym (append-nil (v .names)))
+
+      behind : (u : View) → u .layout .len ≡ v .layout .len → u .entries ≡ v .entries → u .names ≡ v .names ++ p .fresh → Shows x₀ W u
+      behind u l e n = shows u (length (p .fresh)) l e (n ∙ ap (λ bs. v .names ++ bs) (sym (take-length (p .fresh))))
