@@ -22,6 +22,17 @@ unfolding _▹_
 first-of zero b h = refl
 first-of (suc a) b h = absurd (omega (arith, h))
 
+pub stays : (a b : ℕ) → (a ≡ 0 → ⊥) → a ▹ b ≡ a
+unfolding _▹_
+stays zero b h = absurd (h refl)
+stays (suc a) b h = refl
+
+-- the first of three, whichever two are asked first
+pub ▹-assoc : (a b c : ℕ) → (a ▹ b) ▹ c ≡ a ▹ b ▹ c
+unfolding _▹_
+▹-assoc zero b c = refl
+▹-assoc (suc a) b c = refl
+
 -- a test refuses nothing exactly when it does not hold
 pub unmet : (t : Bool) (n : ℕ) → t ⇒ suc n ≡ 0 → t ≡ false
 unfolding _⇒_

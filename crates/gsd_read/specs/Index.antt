@@ -1,0 +1,30 @@
+-- The tests of one index entry in two parts, and what the walk over the entries answers.
+use Prim.Native.Nat.{ℕ, _+_, _*_, _^_, _≤_, _<_}
+use mathlib.Core.Path.{_≡_}
+use mathlib.Core.Bool.{not, _||_}
+use mathlib.Core.List.{List}
+use lib.ListN.{length}
+use lib.Dec.{ltb, leb}
+use Rattle.gsd_format.specs.declared.Entry.{Entry}
+use Rattle.gsd_format.specs.declared.Layout.{Layout}
+use Rattle.gsd_format.specs.Bytes.{meets}
+use Rattle.gsd_format.specs.Types.{known, chunkSize}
+use Rattle.gsd_format.specs.Refusals.{_⇒_, _▹_}
+use Rattle.gsd_format.specs.Header.{headerSize, greatestLength}
+use Rattle.gsd_format.specs.Entries.{framesOf, chunksEnd}
+use Rattle.gsd_format.specs.Opening.{follows, entriesTest}
+use Rattle.gsd_read.specs.declared.index.Walk.{Walk}
+
+-- 12 to 15: the entry by itself and behind the one before
+unfoldable pub fieldsTest : ℕ → ℕ → ℕ → Entry → ℕ
+fieldsTest names least top e =
+    (ltb (e .location) headerSize || leb (2 ^ 63) (e .location) ⇒ 12)
+    ▹ (not (known (e .kind)) ⇒ 13)
+    ▹ (leb names (e .id) ⇒ 14)
+    ▹ (not (follows least top e) ⇒ 15)
+
+-- 16 and 17: n bytes from place a lie in the slice and outside both blocks
+unfoldable pub roomTest : Layout → ℕ → ℕ → ℕ
+roomTest l a n =
+    (ltb (l .len) (a + n) ⇒ 16)
+    ▹ (meets a n (l .index) (32 * l .slots) || meets a n (l .namelist) (64 * l .segments) ⇒ 17)
