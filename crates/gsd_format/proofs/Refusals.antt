@@ -44,6 +44,18 @@ unfolding _⇒_
 passed true n h = absurd (true≢false h)
 passed false n h = refl
 
+pub met : (t : Bool) (n : ℕ) → t ≡ true → t ⇒ n ≡ n
+unfolding _⇒_
+met true n h = refl
+met false n h = absurd (true≢false (sym h))
+
+-- the first test that holds decides
+pub decides : (t : Bool) (n b : ℕ) → t ≡ true → (t ⇒ suc n) ▹ b ≡ suc n
+decides t n b h = rw (met t (suc n) h) (stays (suc n) b (λ z. omega (arith, z)))
+
+pub goes-on : (t : Bool) (n b : ℕ) → t ≡ false → (t ⇒ n) ▹ b ≡ b
+goes-on t n b h = first-of (t ⇒ n) b (passed t n h)
+
 pub neither : (a b : Bool) → (a || b) ≡ false → (a ≡ false) × (b ≡ false)
 neither true b h = absurd (true≢false h)
 neither false b h = (refl, h)

@@ -1,1 +1,2 @@
--- nothing
+-- Laws of this crate's tests.
+pub mod Blocks
