@@ -64,6 +64,14 @@ pub neither-of : (a b : Bool) → a ≡ false → b ≡ false → (a || b) ≡ f
 neither-of true b h g = h
 neither-of false b h g = g
 
+pub left-holds : (a b : Bool) → a ≡ true → (a || b) ≡ true
+left-holds true b h = refl
+left-holds false b h = absurd (true≢false (sym h))
+
+pub right-decides : (a b : Bool) → a ≡ false → (a || b) ≡ b
+right-decides true b h = absurd (true≢false h)
+right-decides false b h = refl
+
 pub both-true : (a b : Bool) → (a && b) ≡ true → (a ≡ true) × (b ≡ true)
 both-true true b h = (refl, h)
 both-true false b h = absurd (true≢false (sym h))

@@ -15,6 +15,18 @@ use Rattle.gsd_format.specs.Entries.{framesOf, chunksEnd}
 use Rattle.gsd_format.specs.Opening.{follows, entriesTest}
 use Rattle.gsd_read.specs.declared.index.Walk.{Walk}
 
+-- the slice is not too long, and both blocks end within it
+pub record Blocks (l : Layout) : Type 0 where
+  pub short : l .len ≤ greatestLength
+  pub index : l .index + 32 * l .slots ≤ l .len
+  pub namelist : l .namelist + 64 * l .segments ≤ l .len
+
+-- r stands for a whole number of bytes: it is that number, or both are more than any slice has
+pub record Capped (whole r : ℕ) : Type 0 where
+  pub exact : whole ≤ greatestLength → r ≡ whole
+  pub beyond : greatestLength < whole → greatestLength < r
+  pub fits : r ≤ 2 ^ 63
+
 -- 12 to 15: the entry by itself and behind the one before
 unfoldable pub fieldsTest : ℕ → ℕ → ℕ → Entry → ℕ
 fieldsTest names least top e =
@@ -28,3 +40,10 @@ unfoldable pub roomTest : Layout → ℕ → ℕ → ℕ
 roomTest l a n =
     (ltb (l .len) (a + n) ⇒ 16)
     ▹ (meets a n (l .index) (32 * l .slots) || meets a n (l .namelist) (64 * l .segments) ⇒ 17)
+
+-- what the walk over the listed entries es answers
+pub record Walks (l : Layout) (names : ℕ) (es : List Entry) (r : Walk) : Type 0 where
+  pub number : r .number ≡ entriesTest l names 0 0 es
+  pub entries : r .number ≡ 0 → r .entries ≡ length es
+  pub frames : r .number ≡ 0 → r .frames ≡ framesOf es
+  pub end : r .number ≡ 0 → r .end ≡ chunksEnd es

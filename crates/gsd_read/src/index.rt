@@ -1,12 +1,15 @@
 // The index block: its entries, their tests, and one walk over them.
+use crate::stretch::share;
 use gsd_bytes::u16_at;
 use gsd_bytes::u32_at;
 use gsd_bytes::u64_at;
 use gsd_format::Entry;
+use gsd_format::Layout;
 ghost use mathlib.Core.Path.{_≡_};
-ghost use Prim.Native.Nat.{_+_, _*_, _≤_, _<_};
+ghost use Prim.Native.Nat.{_+_, _*_, _^_, _≤_, _<_};
 ghost use lib.ListN.{length};
 ghost use Rattle.gsd_format.specs.Entries.{entryAt};
+ghost use Rattle.gsd_read.specs.Index.{Blocks, Capped, roomTest};
 
 // What the walk over the entries finds: a refusal's number or 0, and where that is 0 the entries, the frames and where
 // the last of the chunks ends.
@@ -30,4 +33,21 @@ pub fn entry_at(image: &[u8], at: usize) -> Entry
         kind: image[at + 30],
         flags: image[at + 31],
     }
+}
+
+// 16 and 17: n bytes from place a lie in the slice and outside both blocks.
+fn room_number(l: Layout, a: u64, n: u64) -> u64
+    requires { ⌜ Blocks l × (a < 2 ^ 63) × (n ≤ 2 ^ 63) ⌝ }
+    ensures { λ r. ⌜ r ≡ roomTest l a n ⌝ }
+{
+    if (l.len as u64) < a + n {
+        return 16;
+    }
+    if share(a, n, l.index, 32 * l.slots) {
+        return 17;
+    }
+    if share(a, n, l.namelist, 64 * l.segments) {
+        return 17;
+    }
+    0
 }

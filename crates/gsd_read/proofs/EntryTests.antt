@@ -1,0 +1,69 @@
+-- Laws of one entry's tests: the chain in its two parts, a size that is capped, and what an entry that passes has.
+use Prim.Native.Nat.{ℕ, _+_, _*_, _^_, _≤_, _<_, min}
+use mathlib.Core.Path.{_≡_, refl, sym, _∙_, ap}
+use mathlib.Core.Bool.{Bool, true, false, not}
+use native.Mathlib.Nat.{mul-comm, mul-le-mul, mul-le-mul-left}
+use native.Mathlib.Decide.{decLt, ℕ-discrete}
+use native.Mathlib.Omega.{arith}
+use lib.Dec.{ltb}
+use borrow.Author.Tests.{lt-ltb, ltb-false}
+use Rattle.gsd_format.specs.declared.Entry.{Entry}
+use Rattle.gsd_format.specs.declared.Layout.{Layout}
+use Rattle.gsd_format.specs.Types.{chunkSize}
+use Rattle.gsd_format.specs.Refusals.{_⇒_, _▹_}
+use Rattle.gsd_format.specs.Header.{greatestLength}
+use Rattle.gsd_format.specs.Opening.{entryTest}
+use Rattle.gsd_format.proofs.Refusals.{▹-assoc, decides}
+use Rattle.gsd_read.specs.Index.{Blocks, Capped, fieldsTest, roomTest}
+
+-- A size that is capped
+
+-- a product with a factor that is more than any slice has, and stays so
+big : (a b x y : ℕ) → greatestLength < a → greatestLength < x → (b ≡ 0 → y ≡ 0) → (0 < b → 0 < y) → x * y ≤ 2 ^ 63 → Capped (a * b) (x * y)
+big a b x y h g z p f = go (ℕ-discrete b 0)
+  where
+    go : Dec (b ≡ 0) → Capped (a * b) (x * y)
+    go (yes e) =
+        let e′ : y ≡ 0 = z e in
+        let w : a * b ≡ 0 = rw e (omega arith) in
+        let r : x * y ≡ 0 = rw e′ (omega arith) in
+        record { exact = λ _. r ∙ sym w; beyond = λ l. absurd (omega arith); fits = f }
+    go (no e) =
+        let w : a * 1 ≤ a * b = mul-le-mul-left a (omega arith) in
+        let q : 0 < y = p (omega arith) in
+        let r : x * 1 ≤ x * y = mul-le-mul-left x q in
+        record { exact = λ l. absurd (omega arith); beyond = λ _. omega arith; fits = f }
+
+-- a product of two numbers, each cut just above the longest slice
+pub capped-product : (a b : ℕ) → Capped (a * b) (min a (greatestLength + 1) * min b (greatestLength + 1))
+capped-product a b = go (decLt greatestLength a) (decLt greatestLength b)
+  where
+    fits : min a (greatestLength + 1) * min b (greatestLength + 1) ≤ 2 ^ 63
+    fits = omega (arith, mul-le-mul {n₁ = min a (greatestLength + 1)} {m₁ = min b (greatestLength + 1)} {n₂ = greatestLength + 1} {m₂ = greatestLength + 1} (omega arith) (omega arith))
+
+    go : Dec (greatestLength < a) → Dec (greatestLength < b) → Capped (a * b) (min a (greatestLength + 1) * min b (greatestLength + 1))
+    go (yes h) d = big a b (min a (greatestLength + 1)) (min b (greatestLength + 1)) h (omega arith) (omega arith) (omega arith) fits
+    go (no h) (yes d) =
+        rw (mul-comm a b, mul-comm (min a (greatestLength + 1)) (min b (greatestLength + 1)))
+        (big b a (min b (greatestLength + 1)) (min a (greatestLength + 1)) d (omega arith) (omega arith) (omega arith)
+        (rw (mul-comm (min b (greatestLength + 1)) (min a (greatestLength + 1))) fits))
+    go (no h) (no d) =
+        let p : min a (greatestLength + 1) ≡ a = omega arith in
+        let q : min b (greatestLength + 1) ≡ b = omega arith in
+        record { exact = λ _ i. p i * q i; beyond = λ w. rw (p, q) w; fits = fits }
+
+-- beyond every slice the very size does not matter
+pub room-capped : (l : Layout) (a whole r : ℕ) → Blocks l → Capped whole r → roomTest l a whole ≡ roomTest l a r
+unfolding roomTest
+room-capped l a whole r b c = go (decLt greatestLength whole)
+  where
+    go : Dec (greatestLength < whole) → roomTest l a whole ≡ roomTest l a r
+    go (yes h) = decides _ 15 _ (lt-ltb (l .len) (a + whole) (omega (arith, b .short))) ∙ sym (decides _ 15 _ (lt-ltb (l .len) (a + r) (omega (arith, b .short, c .beyond h))))
+    go (no h) = ap (roomTest l a) (sym (c .exact (omega arith)))
+
+-- The chain
+
+pub entry-split : (l : Layout) (names least top : ℕ) (e : Entry) →
+    entryTest l names least top e ≡ fieldsTest names least top e ▹ roomTest l (e .location) (chunkSize e)
+unfolding entryTest fieldsTest roomTest
+entry-split l names least top e = simp ▹-assoc
