@@ -1,4 +1,5 @@
 -- Laws of reading: what each definition depends on, and its equations.
 pub mod Refusals
 pub mod Bytes
+pub mod Types
 pub mod Walk
