@@ -1,10 +1,11 @@
 -- Laws of refusals: a chain refuses nothing exactly when none of its tests does.
-use Prim.Native.Nat.{ℕ, zero, suc, _≤_}
+use Prim.Native.Nat.{ℕ, zero, suc, _≤_, _<_}
 use mathlib.Core.Path.{_≡_, refl, sym, _∙_}
 use mathlib.Core.Bool.{Bool, true, false, not, true≢false, _&&_, _||_}
+use native.Mathlib.Decide.{decLt}
 use native.Mathlib.Omega.{arith}
 use lib.Dec.{ltb, eqb}
-use borrow.Author.Tests.{ltb-false, eqb-true, not-false, le-ltb, eq-eqb}
+use borrow.Author.Tests.{ltb-false, eqb-true, not-false, lt-ltb, le-ltb, eq-eqb}
 use Rattle.gsd_format.specs.Refusals.{_⇒_, _▹_}
 
 pub both : (a b : ℕ) → a ▹ b ≡ 0 → (a ≡ 0) × (b ≡ 0)
@@ -80,6 +81,14 @@ pub both-of : (a b : Bool) → a ≡ true → b ≡ true → (a && b) ≡ true
 both-of true b h g = g
 both-of false b h g = h
 
+pub left-fails : (a b : Bool) → a ≡ false → (a && b) ≡ false
+left-fails true b h = absurd (true≢false h)
+left-fails false b h = refl
+
+pub right-fails : (a b : Bool) → b ≡ false → (a && b) ≡ false
+right-fails true b h = h
+right-fails false b h = refl
+
 pub not-of : (t : Bool) → t ≡ true → not t ≡ false
 not-of true h = refl
 not-of false h = absurd (true≢false (sym h))
@@ -96,3 +105,12 @@ no-differ a b n h = eqb-true a b (not-false (eqb a b) (unmet (not (eqb a b)) n h
 
 pub differ-no : (a b n : ℕ) → a ≡ b → not (eqb a b) ⇒ n ≡ 0
 differ-no a b n h = passed (not (eqb a b)) n (not-of (eqb a b) (eq-eqb a b h))
+
+-- two comparisons that mean the same answer the same
+pub same-test : (a b c d : ℕ) → (a < b → c < d) → (c < d → a < b) → ltb a b ≡ ltb c d
+same-test a b c d f g = go (decLt a b) (decLt c d)
+  where
+    go : Dec (a < b) → Dec (c < d) → ltb a b ≡ ltb c d
+    go (yes h) k = lt-ltb a b h ∙ sym (lt-ltb c d (f h))
+    go (no h) (yes k) = absurd (h (g k))
+    go (no h) (no k) = le-ltb a b (omega arith) ∙ sym (le-ltb c d (omega arith))

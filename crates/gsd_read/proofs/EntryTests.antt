@@ -2,18 +2,18 @@
 use Prim.Native.Nat.{ℕ, _+_, _*_, _^_, _≤_, _<_, min}
 use mathlib.Core.Path.{_≡_, refl, sym, _∙_, ap}
 use mathlib.Core.Bool.{Bool, true, false, not}
-use native.Mathlib.Nat.{mul-comm, mul-le-mul, mul-le-mul-left}
+use native.Mathlib.Nat.{mul-comm, mul-assoc, mul-le-mul, mul-le-mul-left}
 use native.Mathlib.Decide.{decLt, ℕ-discrete}
 use native.Mathlib.Omega.{arith}
 use lib.Dec.{ltb}
-use borrow.Author.Tests.{lt-ltb, ltb-false}
+use borrow.Author.Tests.{lt-ltb, leb-false}
 use Rattle.gsd_format.specs.declared.Entry.{Entry}
 use Rattle.gsd_format.specs.declared.Layout.{Layout}
 use Rattle.gsd_format.specs.Types.{chunkSize}
 use Rattle.gsd_format.specs.Refusals.{_⇒_, _▹_}
-use Rattle.gsd_format.specs.Header.{greatestLength}
+use Rattle.gsd_format.specs.Header.{headerSize, greatestLength}
 use Rattle.gsd_format.specs.Opening.{entryTest}
-use Rattle.gsd_format.proofs.Refusals.{▹-assoc, decides}
+use Rattle.gsd_format.proofs.Refusals.{▹-assoc, decides, both, unmet, neither}
 use Rattle.gsd_read.specs.Index.{Blocks, Capped, fieldsTest, roomTest}
 
 -- A size that is capped
@@ -52,6 +52,10 @@ capped-product a b = go (decLt greatestLength a) (decLt greatestLength b)
         let q : min b (greatestLength + 1) ≡ b = omega arith in
         record { exact = λ _ i. p i * q i; beyond = λ w. rw (p, q) w; fits = fits }
 
+-- the same for a chunk's N, M and element size
+pub capped-chunk : (n m size x y : ℕ) → x ≡ min n (greatestLength + 1) → y ≡ min (m * size) (greatestLength + 1) → Capped (n * m * size) (x * y)
+capped-chunk n m size x y p q = rw (p, q, mul-assoc) (capped-product n (m * size))
+
 -- beyond every slice the very size does not matter
 pub room-capped : (l : Layout) (a whole r : ℕ) → Blocks l → Capped whole r → roomTest l a whole ≡ roomTest l a r
 unfolding roomTest
@@ -67,3 +71,7 @@ pub entry-split : (l : Layout) (names least top : ℕ) (e : Entry) →
     entryTest l names least top e ≡ fieldsTest names least top e ▹ roomTest l (e .location) (chunkSize e)
 unfolding entryTest fieldsTest roomTest
 entry-split l names least top e = simp ▹-assoc
+
+pub fields-place : (names least top : ℕ) (e : Entry) → fieldsTest names least top e ≡ 0 → e .location < 2 ^ 63
+unfolding fieldsTest
+fields-place names least top e h = leb-false (2 ^ 63) (e .location) (neither (ltb (e .location) headerSize) _ (unmet _ 11 (both _ _ h .0)) .1)

@@ -1,5 +1,8 @@
 // The header and the two blocks it names.
 use crate::stretch::share;
+use gsd_bytes::has_magic;
+use gsd_bytes::has_zero;
+use gsd_bytes::u32_at;
 use gsd_bytes::u64_at;
 use gsd_format::Layout;
 ghost use mathlib.Core.Path.{_≡_};
@@ -8,7 +11,32 @@ ghost use mathlib.Core.Bool.{_||_};
 ghost use lib.ListN.{length};
 ghost use lib.Dec.{ltb};
 ghost use Rattle.gsd_format.specs.Header.{headerSize, greatestLength, layoutOf};
-ghost use Rattle.gsd_format.specs.Opening.{blocksTest};
+ghost use Rattle.gsd_format.specs.Opening.{headerTest, blocksTest};
+
+// 1 to 5: the slice's length, the magic, the version, application and schema.
+pub fn header_number(image: &[u8]) -> u64
+    ensures { λ r. ⌜ r ≡ headerTest (now (image .entry)) ⌝ }
+{
+    if image.len() < 256 {
+        return 1;
+    }
+    if 1073741824 < image.len() {
+        return 2;
+    }
+    if !has_magic(image) {
+        return 3;
+    }
+    if u32_at(image, 44) != 0x00020000 {
+        return 4;
+    }
+    if !has_zero(image, 48, 112) {
+        return 5;
+    }
+    if !has_zero(image, 112, 176) {
+        return 5;
+    }
+    0
+}
 
 // The header's four numbers, and the slice's length.
 pub fn layout_of(image: &[u8]) -> Layout

@@ -26,5 +26,14 @@ pub fn share(a: u64, n: u64, b: u64, m: u64) -> bool
     requires { ⌜ (a + n < 2 ^ 64) × (b + m < 2 ^ 64) ⌝ }
     ensures { λ r. ⌜ r ≡ meets a n b m ⌝ }
 {
-    greater(a, b) < lesser(a + n, b + m)
+    if b + m <= a {
+        return false;
+    }
+    if n == 0 {
+        return false;
+    }
+    if m == 0 {
+        return false;
+    }
+    b < a + n
 }

@@ -1,23 +1,42 @@
--- The test is that of the definition.
-use lib.Dec.{ltb}
+use Prim.Native.Nat.{_+_, max, min}
+use Rattle.gsd_format.proofs.Bytes.{apart-meets}
+use mathlib.Core.Path.{sym}
+use native.Mathlib.Omega.{arith}
+use Rattle.gsd_format.proofs.Refusals.{same-test}
 use borrow.Author.Needs.{needs}
 use Rattle.gsd_read.proofs.stretch.share.Statement.{statement}
 use Rattle.gsd_read.proofs.stretch.share.Tie as tie
+use Rattle.gsd_read.proofs.stretch.share.Reads as reads
+use Rattle.gsd_read.proofs.stretch.share.Lts as lts
 
-greater-requires : tie.Need-greater-requires
-greater-requires c κs = search needs
+-- src/stretch.rt:29:8
+add-if1 : tie.Need-add-if1
+add-if1 c = search needs
 
-add-lesser : tie.Need-add-lesser
-add-lesser c = search needs
-
-add-lesser-2 : tie.Need-add-lesser-2
-add-lesser-2 c = search needs
-
-lesser-requires : tie.Need-lesser-requires
-lesser-requires c κs = search needs
-
+-- src/stretch.rt:30:9
 returns : tie.Need-returns
-returns c = λ i. ltb (c .before .greater .ensures i) (c .lesser .ensures i)
+returns c = sym (apart-meets (c .before .args .a) (c .before .args .n) (c .before .args .b) (c .before .args .m) (λ p i j k l. omega arith))
+
+-- src/stretch.rt:33:9
+returns-2 : tie.Need-returns-2
+returns-2 c = sym (apart-meets (c .before .before .args .a) (c .before .before .args .n) (c .before .before .args .b) (c .before .before .args .m) (λ p i j k l. omega arith))
+
+-- src/stretch.rt:36:9
+returns-3 : tie.Need-returns-3
+returns-3 c = sym (apart-meets (c .before .before .before .args .a) (c .before .before .before .args .n) (c .before .before .before .args .b) (c .before .before .before .args .m) (λ p i j k l. omega arith))
+
+-- src/stretch.rt:38:9
+add-result : tie.Need-add-result
+add-result c = search needs
+
+-- src/stretch.rt:25:1
+returns-4 : tie.Need-returns-4
+returns-4 c =
+    let a = c .before .before .before .args .a in
+    let n = c .before .before .before .args .n in
+    let b = c .before .before .before .args .b in
+    let m = c .before .before .before .args .m in
+    same-test b (a + n) (max a b) (min (a + n) (b + m)) (λ h. omega arith) (λ h. omega arith)
 
 pub share-spec : {M : Type 1} → statement M
-share-spec = tie.close (tie.spec greater-requires add-lesser add-lesser-2 lesser-requires returns)
+share-spec = tie.close (tie.spec add-if1 returns returns-2 returns-3 add-result returns-4)
