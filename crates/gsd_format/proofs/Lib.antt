@@ -2,4 +2,7 @@
 pub mod Refusals
 pub mod Bytes
 pub mod Types
+pub mod Entries
 pub mod Walk
+pub mod Verdict
+pub mod Lookup
