@@ -6,7 +6,6 @@ use mathlib.Core.Bool.{true, false}
 use lib.ListN.{getD}
 use lib.Dec.{eqb}
 use Rattle.gsd_format.specs.declared.Entry.{Entry}
-use Rattle.gsd_format.specs.declared.Layout.{Layout}
 use Rattle.gsd_format.specs.Bytes.{le}
 use Rattle.gsd_format.specs.Types.{chunkSize}
 use Rattle.gsd_format.specs.Header.{layoutOf}

@@ -1,7 +1,7 @@
 -- Laws of one entry's tests: the chain in its two parts, a size that is capped, and what an entry that passes has.
 use Prim.Native.Nat.{ℕ, _+_, _*_, _^_, _≤_, _<_, min}
-use mathlib.Core.Path.{_≡_, refl, sym, _∙_, ap}
-use mathlib.Core.Bool.{Bool, true, false, not}
+use mathlib.Core.Path.{_≡_, sym, _∙_, ap}
+use mathlib.Core.List.{List, [], _∷_}
 use native.Mathlib.Nat.{mul-comm, mul-assoc, mul-le-mul, mul-le-mul-left}
 use native.Mathlib.Decide.{decLt, ℕ-discrete}
 use native.Mathlib.Omega.{arith}
@@ -10,11 +10,12 @@ use borrow.Author.Tests.{lt-ltb, leb-false}
 use Rattle.gsd_format.specs.declared.Entry.{Entry}
 use Rattle.gsd_format.specs.declared.Layout.{Layout}
 use Rattle.gsd_format.specs.Types.{chunkSize}
-use Rattle.gsd_format.specs.Refusals.{_⇒_, _▹_}
+use Rattle.gsd_format.specs.Refusals.{_▹_}
 use Rattle.gsd_format.specs.Header.{headerSize, greatestLength}
 use Rattle.gsd_format.specs.Opening.{entryTest}
 use Rattle.gsd_format.proofs.Refusals.{▹-assoc, decides, both, unmet, neither}
-use Rattle.gsd_read.specs.Index.{Blocks, Capped, fieldsTest, roomTest}
+use Rattle.gsd_format.proofs.Walk.{Walked, walked-all, walked-bad}
+use Rattle.gsd_read.specs.Index.{Capped, fieldsTest, roomTest, Walks}
 
 -- A size that is capped
 
@@ -57,12 +58,12 @@ pub capped-chunk : (n m size x y : ℕ) → x ≡ min n (greatestLength + 1) →
 capped-chunk n m size x y p q = rw (p, q, mul-assoc) (capped-product n (m * size))
 
 -- beyond every slice the very size does not matter
-pub room-capped : (l : Layout) (a whole r : ℕ) → Blocks l → Capped whole r → roomTest l a whole ≡ roomTest l a r
+pub room-capped : (l : Layout) (a whole r : ℕ) → l .len ≤ greatestLength → Capped whole r → roomTest l a whole ≡ roomTest l a r
 unfolding roomTest
 room-capped l a whole r b c = go (decLt greatestLength whole)
   where
     go : Dec (greatestLength < whole) → roomTest l a whole ≡ roomTest l a r
-    go (yes h) = decides _ 15 _ (lt-ltb (l .len) (a + whole) (omega (arith, b .short))) ∙ sym (decides _ 15 _ (lt-ltb (l .len) (a + r) (omega (arith, b .short, c .beyond h))))
+    go (yes h) = decides _ 15 _ (lt-ltb (l .len) (a + whole) (omega arith)) ∙ sym (decides _ 15 _ (lt-ltb (l .len) (a + r) (omega (arith, c .beyond h))))
     go (no h) = ap (roomTest l a) (sym (c .exact (omega arith)))
 
 -- The chain
@@ -75,3 +76,21 @@ entry-split l names least top e = simp ▹-assoc
 pub fields-place : (names least top : ℕ) (e : Entry) → fieldsTest names least top e ≡ 0 → e .location < 2 ^ 63
 unfolding fieldsTest
 fields-place names least top e h = leb-false (2 ^ 63) (e .location) (neither (ltb (e .location) headerSize) _ (unmet _ 11 (both _ _ h .0)) .1)
+
+-- The walk's two ways out
+
+pub walk-ends : (l : Layout) (names : ℕ) (all : List Entry) (least top end many : ℕ) (rest : List Entry) → Walked l names all least top end many rest →
+    rest ≡ [] → Walks l names all (record { number = 0; entries = many; frames = top; end = end })
+walk-ends l names all least top end many rest w z =
+    let a = walked-all l names all least top end many rest w z in
+    record { number = sym (a .0); entries = λ _. sym (a .1); frames = λ _. sym (a .2); end = λ _. sym (a .3) }
+
+pub walk-refuses : (l : Layout) (names : ℕ) (all : List Entry) (least top end many : ℕ) (rest : List Entry) (e : Entry) (es : List Entry) (number : ℕ) →
+    Walked l names all least top end many rest → rest ≡ e ∷ es → number ≡ entryTest l names least top e → (number ≡ 0 → ⊥) →
+    Walks l names all (record { number = number; entries = many; frames = top; end = end })
+walk-refuses l names all least top end many rest e es number w q p n = record {
+  number = p ∙ sym (walked-bad l names all least top end many rest e es w q (λ z. n (p ∙ z)));
+  entries = λ z. absurd (n z);
+  frames = λ z. absurd (n z);
+  end = λ z. absurd (n z);
+}

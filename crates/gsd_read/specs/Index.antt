@@ -8,18 +8,12 @@ use lib.Dec.{ltb, leb}
 use Rattle.gsd_format.specs.declared.Entry.{Entry}
 use Rattle.gsd_format.specs.declared.Layout.{Layout}
 use Rattle.gsd_format.specs.Bytes.{meets}
-use Rattle.gsd_format.specs.Types.{known, chunkSize}
+use Rattle.gsd_format.specs.Types.{known}
 use Rattle.gsd_format.specs.Refusals.{_⇒_, _▹_}
 use Rattle.gsd_format.specs.Header.{headerSize, greatestLength}
 use Rattle.gsd_format.specs.Entries.{framesOf, chunksEnd}
 use Rattle.gsd_format.specs.Opening.{follows, entriesTest}
 use Rattle.gsd_read.specs.declared.index.Walk.{Walk}
-
--- the slice is not too long, and both blocks end within it
-pub record Blocks (l : Layout) : Type 0 where
-  pub short : l .len ≤ greatestLength
-  pub index : l .index + 32 * l .slots ≤ l .len
-  pub namelist : l .namelist + 64 * l .segments ≤ l .len
 
 -- r stands for a whole number of bytes: it is that number, or both are more than any slice has
 pub record Capped (whole r : ℕ) : Type 0 where

@@ -12,9 +12,11 @@ ghost use mathlib.Core.Path.{_≡_};
 ghost use Prim.Native.Nat.{_+_, _*_, _^_, _≤_, _<_};
 ghost use lib.ListN.{length};
 ghost use Rattle.gsd_format.specs.Types.{sizeOf, chunkSize};
+ghost use Rattle.gsd_format.specs.Header.{greatestLength};
 ghost use Rattle.gsd_format.specs.Entries.{entryAt, entriesAt};
 ghost use Rattle.gsd_format.specs.Opening.{entryTest};
-ghost use Rattle.gsd_read.specs.Index.{Blocks, Capped, fieldsTest, roomTest, Walks};
+ghost use Rattle.gsd_format.proofs.Verdict.{Blocks};
+ghost use Rattle.gsd_read.specs.Index.{Capped, fieldsTest, roomTest, Walks};
 
 // What the walk over the entries finds: a refusal's number or 0, and where that is 0 the entries, the frames and where
 // the last of the chunks ends.
@@ -75,7 +77,7 @@ fn fields_number(names: u64, least: u64, top: u64, e: Entry) -> u64
 
 // 16 and 17: n bytes from place a lie in the slice and outside both blocks.
 fn room_number(l: Layout, a: u64, n: u64) -> u64
-    requires { ⌜ Blocks l × (a < 2 ^ 63) × (n ≤ 2 ^ 63) ⌝ }
+    requires { ⌜ Blocks l × (l .len ≤ greatestLength) × (a < 2 ^ 63) × (n ≤ 2 ^ 63) ⌝ }
     ensures { λ r. ⌜ r ≡ roomTest l a n ⌝ }
 {
     if (l.len as u64) < a + n {
@@ -91,7 +93,7 @@ fn room_number(l: Layout, a: u64, n: u64) -> u64
 }
 // 12 to 17 for one entry, whose chunk has size bytes.
 fn entry_number(l: Layout, names: u64, least: u64, top: u64, e: Entry, size: u64) -> u64
-    requires { ⌜ Blocks l × (top < 2 ^ 47) × Capped (chunkSize e) size ⌝ }
+    requires { ⌜ Blocks l × (l .len ≤ greatestLength) × (top < 2 ^ 47) × Capped (chunkSize e) size ⌝ }
     ensures { λ r. ⌜ r ≡ entryTest l names least top e ⌝ }
 {
     let number = fields_number(names, least, top, e);
@@ -103,7 +105,7 @@ fn entry_number(l: Layout, names: u64, least: u64, top: u64, e: Entry, size: u64
 
 // One pass over the listed entries.
 pub fn walk_entries(image: &[u8], l: Layout, names: u64) -> Walk
-    requires { ⌜ Blocks l × (length (now image) ≡ l .len) ⌝ }
+    requires { ⌜ Blocks l × (l .len ≤ greatestLength) × (length (now image) ≡ l .len) ⌝ }
     ensures { λ r. ⌜ Walks l names (entriesAt (now (image .entry)) (l .index) (l .slots)) r ⌝ }
 {
     let slots = l.slots;

@@ -1,3 +1,4 @@
+-- Tests 12 to 15 in their order.
 use lib.Dec.{leb}
 use Rattle.gsd_format.specs.Entries.{key}
 use mathlib.Core.Path.{sym, _∙_, ap}
@@ -10,25 +11,18 @@ use Rattle.gsd_format.proofs.Refusals.{decides, goes-on, met, passed, left-hold
 use borrow.Author.Needs.{needs}
 use Rattle.gsd_read.proofs.index.fields_number.Statement.{statement}
 use Rattle.gsd_read.proofs.index.fields_number.Tie as tie
-use Rattle.gsd_read.proofs.index.fields_number.Reads as reads
-use Rattle.gsd_read.proofs.index.fields_number.Lts as lts
-use Rattle.gsd_bytes.proofs.size_of.Reads as size-of-reads
 
--- src/index.rt:56:9
 returns : tie.Need-returns
 unfolding fieldsTest
 returns c = sym (decides _ 11 _ (left-holds _ _ (lt-ltb _ _ (c .if1 .taken))))
 
--- src/index.rt:59:9
 returns-2 : tie.Need-returns-2
 unfolding fieldsTest
 returns-2 c = sym (decides _ 11 _ (right-decides _ _ (le-ltb _ _ (c .before .before .if1 .left)) ∙ le-leb _ _ (c .if2 .taken)))
 
--- src/index.rt:61:8
 size-of-requires : tie.Need-size-of-requires
 size-of-requires c κs = search needs
 
--- src/index.rt:62:9
 returns-3 : tie.Need-returns-3
 unfolding fieldsTest
 returns-3 c =
@@ -36,11 +30,9 @@ returns-3 c =
     let unknown = ap not (le-ltb 0 (sizeOf (c .before .before .before .before .before .before .args .e .kind)) (omega (arith, c .before .size-of .ensures .0))) in
     sym (goes-on _ 12 _ place ∙ decides _ 12 _ unknown)
 
--- src/index.rt:64:17
 cast-if4 : tie.Need-cast-if4
 cast-if4 c = search needs
 
--- src/index.rt:65:9
 returns-4 : tie.Need-returns-4
 unfolding fieldsTest
 returns-4 c =
@@ -48,7 +40,6 @@ returns-4 c =
     let known = ap not (lt-ltb 0 (sizeOf (c .before .before .before .before .before .before .before .before .args .e .kind)) (omega (arith, c .before .before .before .size-of .ensures .0))) in
     sym (goes-on _ 12 _ place ∙ goes-on _ 13 _ known ∙ decides _ 13 _ (le-leb _ _ (c .if4 .taken)))
 
--- src/index.rt:68:9
 returns-5 : tie.Need-returns-5
 unfolding fieldsTest
 returns-5 c =
@@ -57,19 +48,15 @@ returns-5 c =
     let named = lt-leb _ _ (c .before .before .if4 .left) in
     sym (goes-on _ 12 _ place ∙ goes-on _ 13 _ known ∙ goes-on _ 14 _ named ∙ met _ 15 (ap not (right-fails (leb (c .before .before .before .before .before .before .before .before .before .before .args .least) (key (c .before .before .before .before .before .before .before .before .before .before .args .e))) _ (lt-leb _ _ (c .if5 .taken)))))
 
--- src/index.rt:70:8
 mul-if6 : tie.Need-mul-if6
 mul-if6 c = search needs
 
--- src/index.rt:70:27
 cast-if6 : tie.Need-cast-if6
 cast-if6 c = search needs
 
--- src/index.rt:70:8
 add-if6 : tie.Need-add-if6
 add-if6 c = search needs
 
--- src/index.rt:71:9
 returns-6 : tie.Need-returns-6
 unfolding fieldsTest
 returns-6 c =
@@ -78,7 +65,6 @@ returns-6 c =
     let named = lt-leb _ _ (c .before .before .before .before .before .if4 .left) in
     sym (goes-on _ 12 _ place ∙ goes-on _ 13 _ known ∙ goes-on _ 14 _ named ∙ met _ 15 (ap not (left-fails _ _ (lt-leb _ _ (c .if6 .taken)))))
 
--- src/index.rt:51:1
 returns-7 : tie.Need-returns-7
 unfolding fieldsTest
 returns-7 c =

@@ -1,3 +1,4 @@
+-- Empty stretches share nothing; for the rest the two ends decide.
 use Prim.Native.Nat.{_+_, max, min}
 use Rattle.gsd_format.proofs.Bytes.{apart-meets}
 use mathlib.Core.Path.{sym}
@@ -6,30 +7,22 @@ use Rattle.gsd_format.proofs.Refusals.{same-test}
 use borrow.Author.Needs.{needs}
 use Rattle.gsd_read.proofs.stretch.share.Statement.{statement}
 use Rattle.gsd_read.proofs.stretch.share.Tie as tie
-use Rattle.gsd_read.proofs.stretch.share.Reads as reads
-use Rattle.gsd_read.proofs.stretch.share.Lts as lts
 
--- src/stretch.rt:29:8
 add-if1 : tie.Need-add-if1
 add-if1 c = search needs
 
--- src/stretch.rt:30:9
 returns : tie.Need-returns
 returns c = sym (apart-meets (c .before .args .a) (c .before .args .n) (c .before .args .b) (c .before .args .m) (λ p i j k l. omega arith))
 
--- src/stretch.rt:33:9
 returns-2 : tie.Need-returns-2
 returns-2 c = sym (apart-meets (c .before .before .args .a) (c .before .before .args .n) (c .before .before .args .b) (c .before .before .args .m) (λ p i j k l. omega arith))
 
--- src/stretch.rt:36:9
 returns-3 : tie.Need-returns-3
 returns-3 c = sym (apart-meets (c .before .before .before .args .a) (c .before .before .before .args .n) (c .before .before .before .args .b) (c .before .before .before .args .m) (λ p i j k l. omega arith))
 
--- src/stretch.rt:38:9
 add-result : tie.Need-add-result
 add-result c = search needs
 
--- src/stretch.rt:25:1
 returns-4 : tie.Need-returns-4
 returns-4 c =
     let a = c .before .before .before .args .a in
