@@ -142,9 +142,13 @@ pub fn put_text(s: &mut [u8], at: usize, t: &[u8])
     }
 }
 
-// The format's constants.
+// The format's constants: the lengths of the header and of the longest image, GSD 2.0, and the magic's eight bytes.
+pub const HEADER_SIZE: u64 = 256;
 
-// The magic, eight bytes.
+pub const GREATEST_LENGTH: usize = 1073741824;
+
+pub const VERSION: u64 = 0x00020000;
+
 pub const MAGIC: [u8; 8] = *b"\xdf\x65\xdf\x65\xdf\x65\xdf\x65";
 
 pub fn has_magic(s: &[u8]) -> bool
@@ -161,14 +165,15 @@ pub fn put_magic(s: &mut [u8])
     put_text(s, 0, &MAGIC);
 }
 
-const SIZES: [u64; 11] = [0, 1, 2, 4, 8, 1, 2, 4, 8, 4, 8];
-
 // The bytes of one element of a type, 0 for an unknown type.
 pub fn size_of(kind: u8) -> u64
     ensures { λ r. ⌜ (r ≡ sizeOf kind) × (r ≤ 8) ⌝ }
 {
-    if 10 < kind {
-        return 0;
+    match kind {
+        1 | 5 => 1,
+        2 | 6 => 2,
+        3 | 7 | 9 => 4,
+        4 | 8 | 10 => 8,
+        _ => 0,
     }
-    SIZES[kind as usize]
 }

@@ -10,7 +10,7 @@ use native.Mathlib.Omega.{arith}
 use lib.ListN.{length, getD, set, take, drop, length-set, length-take, length-drop}
 use lib.Seq.{getD-set-same, getD-set-other, getD-take, getD-drop, ext-getD, length-take-le, take-suc, take-add, drop-drop, sets, sets-eq}
 use lib.Dec.{eqb}
-use borrow.Author.Tests.{eqb-true, eqb-false, eq-eqb, ne-eqb, ltb-false, le-ltb}
+use borrow.Author.Tests.{eq-eqb, ne-eqb, ltb-false, le-ltb}
 use Rattle.gsd_format.specs.Bytes.{le, leBytes, part, same, zeroIn, stored, meets}
 
 -- the n bytes of x from a are those of y from b
@@ -283,6 +283,9 @@ pub stored-append : (s : List ℕ) (i : ℕ) (a b : List ℕ) → stored s i (a 
 unfolding stored
 stored-append s i [] b = rw add-zero
 stored-append s i (x ∷ a) b = stored-append (set s i x) (i + 1) a b ∙ ap (λ k. stored (stored (set s i x) (i + 1) a) k b) (omega arith)
+
+pub stored-then : (s : List ℕ) (i : ℕ) (a b : List ℕ) (j : ℕ) → i + length a ≡ j → stored (stored s i a) j b ≡ stored s i (a ++ b)
+stored-then s i a b j e = ap (λ k. stored (stored s i a) k b) (sym e) ∙ sym (stored-append s i a b)
 
 pub stored-next : (s : List ℕ) (i : ℕ) (t : List ℕ) (n : ℕ) → n < length t → set (stored s i (take n t)) (i + n) (getD t n 0) ≡ stored s i (take (n + 1) t)
 unfolding stored

@@ -6,3 +6,4 @@ pub mod Entries
 pub mod Walk
 pub mod Verdict
 pub mod Lookup
+pub mod Create

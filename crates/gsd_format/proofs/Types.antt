@@ -1,30 +1,14 @@
--- Laws of the types: an unknown one has size 0, and no element has more than 8 bytes.
+-- Laws of the types: the size is read off its table, and an unknown type has none.
 use Prim.Native.Nat.{ℕ, zero, suc, _≤_, _<_}
-use mathlib.Core.Path.{_≡_, refl}
-use mathlib.Core.Bool.{Bool, true, _&&_}
-use mathlib.Core.List.{List, [], _∷_}
+use mathlib.Core.Path.{_≡_, refl, sym, ap}
 use native.Mathlib.Omega.{arith}
-use lib.Dec.{leb}
-use lib.ListN.{getD, List·getD-eq-default}
-use borrow.Author.Tests.{leb-true}
+use lib.ListN.{List·getD-eq-default}
 use Rattle.gsd_format.specs.Types.{sizeOf}
-use Rattle.gsd_format.proofs.Refusals.{both-true}
 
-pub unknown-size : (kind : ℕ) → 10 < kind → sizeOf kind ≡ 0
+pub size-at : (k kind : ℕ) → kind ≡ k → sizeOf k ≡ sizeOf kind
+size-at k kind e = ap sizeOf (sym e)
+
+pub size-none : (kind : ℕ) → (0 < kind → 10 < kind) → sizeOf kind ≡ 0
 unfolding sizeOf
-unknown-size kind h = rw List·getD-eq-default
-
--- a bound of every entry of a table, by one test over it
-most : ℕ → List ℕ → Bool
-most m [] = true
-most m (x ∷ l) = leb x m && most m l
-
-most-at : (m : ℕ) (l : List ℕ) (i : ℕ) → most m l ≡ true → getD l i 0 ≤ m
-unfolding most
-most-at m [] i h = omega arith
-most-at m (x ∷ l) zero h = leb-true x m (both-true (leb x m) (most m l) h .0)
-most-at m (x ∷ l) (suc i) h = most-at m l i (both-true (leb x m) (most m l) h .1)
-
-pub size-bound : (kind : ℕ) → sizeOf kind ≤ 8
-unfolding sizeOf most
-size-bound kind = search (most-at)
+size-none zero h = refl
+size-none (suc kind) h = let l : 11 ≤ suc kind = h (omega arith) in rw List·getD-eq-default

@@ -1,5 +1,5 @@
 -- `gsd_bytes::put_text` meets its contract: the bytes passed are stored.
-use Prim.Native.Nat.{_+_, _-_, _≤_}
+use Prim.Native.Nat.{_-_, _≤_}
 use mathlib.Core.Path.{_≡_}
 use native.Mathlib.Omega.{arith}
 use lib.ListN.{length, take, length-set}
