@@ -1,0 +1,3 @@
+-- Laws of this crate's tests.
+pub mod Blocks
+pub mod EntryTests
