@@ -1,3 +1,5 @@
 -- Laws of reading: what each definition depends on, and its equations.
+pub mod Lists
 pub mod Refusals
 pub mod Bytes
+pub mod Texts
