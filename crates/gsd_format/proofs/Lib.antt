@@ -3,3 +3,4 @@ pub mod Lists
 pub mod Refusals
 pub mod Bytes
 pub mod Texts
+pub mod Names
