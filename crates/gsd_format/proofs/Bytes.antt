@@ -1,14 +1,14 @@
 -- Laws of bytes: numbers and parts depend on the bytes they read, a number reads back, and what a store changes.
-use Prim.Native.Nat.{ℕ, zero, suc, _+_, _*_, _/_, _%_, _^_, _≤_, _<_, max, min}
+use Prim.Native.Nat.{ℕ, zero, suc, _+_, _*_, _-_, _/_, _%_, _^_, _≤_, _<_, max, min}
 use mathlib.Core.Path.{_≡_, refl, sym, _∙_, ap}
-use mathlib.Core.Bool.{Bool, true, false, true≢false}
+use mathlib.Core.Bool.{Bool, true, false, true≢false, _&&_}
 use mathlib.Core.List.{List, [], _∷_, _++_}
 use native.Mathlib.Nat.{add-zero, zero-add, add-assoc, suc-add, pow-suc, pow-succ', div-one, div-div-eq-div-mul}
 use native.Mathlib.Numerals.{add-one}
 use native.Mathlib.Decide.{ℕ-discrete, decLt}
 use native.Mathlib.Omega.{arith}
 use lib.ListN.{length, getD, set, take, drop, length-set, length-take, length-drop}
-use lib.Seq.{getD-set-same, getD-set-other, getD-take, getD-drop, ext-getD, sets, sets-eq}
+use lib.Seq.{getD-set-same, getD-set-other, getD-take, getD-drop, ext-getD, length-take-le, take-suc, take-add, drop-drop, sets, sets-eq}
 use lib.Dec.{eqb}
 use borrow.Author.Tests.{eqb-true, eqb-false, eq-eqb, ne-eqb, ltb-false, le-ltb}
 use Rattle.gsd_format.specs.Bytes.{le, leBytes, part, same, zeroIn, stored, meets}
@@ -39,17 +39,46 @@ same-tail x a y b n h k l =
     ap (λ i. getD x i 0) (let e : a + 1 + k ≡ a + suc k = omega arith in e) ∙ h (suc k) (omega arith)
     ∙ ap (λ i. getD y i 0) (let e : b + suc k ≡ b + 1 + k = omega arith in e)
 
+pub same-cons : (x : List ℕ) (a : ℕ) (y : List ℕ) (b n : ℕ) → getD x a 0 ≡ getD y b 0 → Same x (a + 1) y (b + 1) n → Same x a y b (suc n)
+same-cons x a y b n e h zero l = rw (add-zero a, add-zero b) e
+same-cons x a y b n e h (suc k) l =
+    ap (λ i. getD x i 0) (let e : a + suc k ≡ a + 1 + k = omega arith in e) ∙ h k (omega arith)
+    ∙ ap (λ i. getD y i 0) (let e : b + 1 + k ≡ b + suc k = omega arith in e)
+
 -- the same bytes n further on
 pub same-from : (x : List ℕ) (a : ℕ) (y : List ℕ) (b i n : ℕ) → Same x a y b (i + n) → Same x (a + i) y (b + i) n
 same-from x a y b i n h k l =
     ap (λ j. getD x j 0) (let e : a + i + k ≡ a + (i + k) = omega arith in e) ∙ h (i + k) (omega arith)
     ∙ ap (λ j. getD y j 0) (let e : b + (i + k) ≡ b + i + k = omega arith in e)
 
+-- and the n bytes behind i bytes that are the same
+pub same-join : (x : List ℕ) (a : ℕ) (y : List ℕ) (b i n : ℕ) → Same x a y b i → Same x (a + i) y (b + i) n → Same x a y b (i + n)
+same-join x a y b i n h g k l = go (decLt k i)
+  where
+    go : Dec (k < i) → getD x (a + k) 0 ≡ getD y (b + k) 0
+    go (yes e) = h k e
+    go (no e) =
+        ap (λ j. getD x j 0) (let p : a + k ≡ a + i + (k - i) = omega arith in p) ∙ g (k - i) (omega arith)
+        ∙ ap (λ j. getD y j 0) (let p : b + i + (k - i) ≡ b + k = omega arith in p)
+
 -- a number depends on its bytes alone
 pub le-same : (n : ℕ) (x : List ℕ) (a : ℕ) (y : List ℕ) (b : ℕ) → Same x a y b n → le n x a ≡ le n y b
 unfolding le
 le-same zero x a y b h = refl
 le-same (suc n) x a y b h = let e : le n x (a + 1) ≡ le n y (b + 1) = le-same n x (a + 1) y (b + 1) (same-tail x a y b n h) in omega (arith, same-head x a y b n h)
+
+-- equal numbers are equal in their bytes
+pub le-inj : (n : ℕ) (x : List ℕ) (a : ℕ) (y : List ℕ) (b : ℕ) → Octets x → Octets y → le n x a ≡ le n y b → Same x a y b n
+unfolding le
+le-inj zero x a y b p q e = λ k l. absurd (omega arith)
+le-inj (suc n) x a y b p q e = same-cons x a y b n (omega (arith, p a, q b)) (le-inj n x (a + 1) y (b + 1) p q (omega (arith, p a, q b)))
+
+-- the same of numbers that stand i bytes further on
+pub le-further : (n : ℕ) (x : List ℕ) (a : ℕ) (y : List ℕ) (b i : ℕ) → Same x a y b (i + n) → le n x (a + i) ≡ le n y (b + i)
+le-further n x a y b i h = le-same n x (a + i) y (b + i) (same-from x a y b i n h)
+
+pub le-more : (n : ℕ) (x : List ℕ) (a : ℕ) (y : List ℕ) (b i : ℕ) → Octets x → Octets y → Same x a y b i → le n x (a + i) ≡ le n y (b + i) → Same x a y b (i + n)
+le-more n x a y b i p q h e = same-join x a y b i n h (le-inj n x (a + i) y (b + i) p q e)
 
 pub le-bound : (n : ℕ) (s : List ℕ) (i : ℕ) → Octets s → le n s i < 256 ^ n
 unfolding le
@@ -103,11 +132,17 @@ part-length s i n h = simp (length-take, length-drop) (omega arith)
 pub part-at : (s : List ℕ) (i n k : ℕ) → k < n → getD (part s i n) k 0 ≡ getD s (i + k) 0
 part-at s i n k h = rw (getD-take, getD-drop)
 
+pub part-append : (s : List ℕ) (a i n : ℕ) → part s a (i + n) ≡ part s a i ++ part s (a + i) n
+part-append s a i n = take-add i n (drop a s) ∙ ap (λ l. part s a i ++ take n l) (drop-drop i a s)
+
 -- a part depends on its bytes alone
 pub part-same : (x : List ℕ) (a : ℕ) (y : List ℕ) (b n : ℕ) → a + n ≤ length x → b + n ≤ length y → Same x a y b n → part x a n ≡ part y b n
 part-same x a y b n f g h =
     ext-getD 0 (part x a n) (part y b n) (part-length x a n f ∙ sym (part-length y b n g))
     (λ i l. let m : i < n = rw (part-length x a n f) at l in part-at x a n i m ∙ h i m ∙ sym (part-at y b n i m))
+
+pub same-part : (x : List ℕ) (a : ℕ) (y : List ℕ) (b n : ℕ) → part x a n ≡ part y b n → Same x a y b n
+same-part x a y b n e k l = sym (part-at x a n k l) ∙ ap (λ s. getD s k 0) e ∙ part-at y b n k l
 
 -- Comparison, zeros, stretches
 
@@ -136,6 +171,32 @@ ne-same s t n = go (same s t) refl
     go : (b : Bool) → same s t ≡ b → same s t ≡ false
     go true e = absurd (n (same-eq s t e))
     go false e = e
+
+-- two texts of which each begins with as many bytes are compared in two halves
+pub same-append : (s t s′ t′ : List ℕ) → length s ≡ length t → same (s ++ s′) (t ++ t′) ≡ (same s t && same s′ t′)
+unfolding same
+same-append [] [] s′ t′ h = refl
+same-append [] (b ∷ t) s′ t′ h = absurd (omega arith)
+same-append (a ∷ s) [] s′ t′ h = absurd (omega arith)
+same-append (a ∷ s) (b ∷ t) s′ t′ h = go (eqb a b) (same-append s t s′ t′ (omega arith))
+  where
+    go : (e : Bool) → same (s ++ s′) (t ++ t′) ≡ (same s t && same s′ t′)
+        → elim e [ true ↦ same (s ++ s′) (t ++ t′) | false ↦ false ] ≡ (elim e [ true ↦ same s t | false ↦ false ] && same s′ t′)
+    go true h = h
+    go false h = refl
+
+-- parts are the same when their bytes are, and are compared in two halves too
+pub same-yes : (x : List ℕ) (a : ℕ) (y : List ℕ) (b n : ℕ) → a + n ≤ length x → b + n ≤ length y → Same x a y b n → same (part x a n) (part y b n) ≡ true
+same-yes x a y b n f g h = eq-same (part x a n) (part y b n) (part-same x a y b n f g h)
+
+pub same-no : (x : List ℕ) (a : ℕ) (y : List ℕ) (b n : ℕ) → (Same x a y b n → ⊥) → same (part x a n) (part y b n) ≡ false
+same-no x a y b n h = ne-same (part x a n) (part y b n) (λ e. h (same-part x a y b n e))
+
+pub same-halves : (x : List ℕ) (a : ℕ) (y : List ℕ) (b i n : ℕ) → a + i ≤ length x → b + i ≤ length y
+    → same (part x a (i + n)) (part y b (i + n)) ≡ (same (part x a i) (part y b i) && same (part x (a + i) n) (part y (b + i) n))
+same-halves x a y b i n f g =
+    rw (part-append x a i n, part-append y b i n)
+    (same-append (part x a i) (part y b i) (part x (a + i) n) (part y (b + i) n) (part-length x a i f ∙ sym (part-length y b i g)))
 
 -- a zero is found, with its place, or there is none
 pub zero-found : (s : List ℕ) (i n : ℕ) → zeroIn s i n ≡ true → (k : ℕ) × (k < n) × (getD s (i + k) 0 ≡ 0)
@@ -217,15 +278,18 @@ stored-inside s i (b ∷ bs) (suc k) h l =
     ap (λ (n : ℕ). getD (stored (set s i b) (i + 1) bs) n 0) (omega arith)
     ∙ stored-inside (set s i b) (i + 1) bs k (simp length-set (omega arith)) (omega arith)
 
--- one text stored behind another is the two in a row; so is one byte behind a text, as a loop stores it
+-- a text stored behind another is the two in a row; the next byte of a text, as a loop stores it
 pub stored-append : (s : List ℕ) (i : ℕ) (a b : List ℕ) → stored s i (a ++ b) ≡ stored (stored s i a) (i + length a) b
 unfolding stored
 stored-append s i [] b = rw add-zero
 stored-append s i (x ∷ a) b = stored-append (set s i x) (i + 1) a b ∙ ap (λ k. stored (stored (set s i x) (i + 1) a) k b) (omega arith)
 
-pub stored-more : (s : List ℕ) (i : ℕ) (bs : List ℕ) (b : ℕ) → set (stored s i bs) (i + length bs) b ≡ stored s i (bs ++ (b ∷ []))
+pub stored-next : (s : List ℕ) (i : ℕ) (t : List ℕ) (n : ℕ) → n < length t → set (stored s i (take n t)) (i + n) (getD t n 0) ≡ stored s i (take (n + 1) t)
 unfolding stored
-stored-more s i bs b = sym (stored-append s i bs (b ∷ []))
+stored-next s i t n h =
+    let next : take (n + 1) t ≡ take n t ++ (getD t n 0 ∷ []) = rw add-one (take-suc t n 0 h) in
+    let place : length (take n t) ≡ n = length-take-le n t (omega arith) in
+    rw (next, stored-append s i (take n t), place)
 
 -- four and eight bytes as their stores come
 pub stored-four : (s : List ℕ) (i w : ℕ)

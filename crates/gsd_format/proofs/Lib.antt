@@ -4,3 +4,4 @@ pub mod Refusals
 pub mod Bytes
 pub mod Texts
 pub mod Names
+pub mod Types

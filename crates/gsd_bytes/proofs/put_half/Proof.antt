@@ -1,3 +1,4 @@
+-- `gsd_bytes::put_half` meets its contract: its stores are those of the four bytes in a row.
 use native.Mathlib.Omega.{arith}
 use lib.ListN.{length-set}
 use borrow.Author.Needs.{needs}

@@ -1,3 +1,4 @@
+-- `gsd_bytes::put_word` meets its contract: two halves in a row are the eight bytes.
 use borrow.Author.Needs.{needs}
 use Rattle.gsd_format.proofs.Bytes.{stored-eight}
 use Rattle.gsd_bytes.proofs.put_word.Statement.{statement}

@@ -1,3 +1,4 @@
+-- `gsd_bytes::u16_at` meets its contract.
 use borrow.Author.Needs.{needs}
 use Rattle.gsd_format.proofs.Bytes.{le-two}
 use Rattle.gsd_bytes.proofs.u16_at.Statement.{statement}

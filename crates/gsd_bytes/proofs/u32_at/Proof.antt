@@ -1,3 +1,4 @@
+-- `gsd_bytes::u32_at` meets its contract.
 use borrow.Author.Needs.{needs}
 use Rattle.gsd_format.proofs.Bytes.{le-four}
 use Rattle.gsd_bytes.proofs.u32_at.Statement.{statement}

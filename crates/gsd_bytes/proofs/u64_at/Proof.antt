@@ -1,3 +1,4 @@
+-- `gsd_bytes::u64_at` meets its contract.
 use borrow.Author.Needs.{needs}
 use Rattle.gsd_format.proofs.Bytes.{le-eight}
 use Rattle.gsd_bytes.proofs.u64_at.Statement.{statement}

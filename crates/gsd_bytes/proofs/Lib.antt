@@ -1,0 +1,2 @@
+-- Laws of the search for a zero byte.
+pub mod Zeros

@@ -1,0 +1,2 @@
+-- What a search for a zero byte answers.
+pub mod Zeros
