@@ -3,5 +3,6 @@ pub mod Lists
 pub mod Refusals
 pub mod Bytes
 pub mod Texts
+pub mod Ids
 pub mod Names
 pub mod Types

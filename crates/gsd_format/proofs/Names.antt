@@ -2,25 +2,34 @@
 -- its zero, and then the block ends or a zero follows.
 use Prim.Native.Nat.{ℕ, zero, suc, _+_, _*_, _-_, _≤_, _<_}
 use mathlib.Core.Path.{_≡_, refl, sym, _∙_, ap}
-use mathlib.Core.Bool.{Bool, true, false}
-use mathlib.Core.List.{List, [], _∷_, _++_, map, append-assoc, append-nil}
+use mathlib.Core.Bool.{true, false, not}
+use mathlib.Core.List.{List, [], _∷_, _++_, map, append-assoc, append-nil, append-cancel-left}
 use native.Mathlib.Nat.{zero-add, add-zero, suc-add}
-use native.Mathlib.Decide.{ℕ-discrete}
+use native.Mathlib.Decide.{ℕ-discrete, decLt}
 use native.Mathlib.Omega.{arith}
 use lib.ListN.{length, getD, take, length-append}
-use borrow.Author.Tests.{eq-eqb, ne-eqb}
+use lib.Dec.{ltb, eqb}
+use borrow.Author.Tests.{eqb-true, eqb-false, eq-eqb, ne-eqb, ltb-true, lt-ltb, le-ltb, not-true, not-false}
 use borrow.Author.Count.{below-more}
+use Rattle.gsd_format.specs.declared.Layout.{Layout}
 use Rattle.gsd_format.specs.declared.Part.{Part}
-use Rattle.gsd_format.specs.Bytes.{part}
-use Rattle.gsd_format.specs.Names.{partsAt, bytesOf, flat}
+use Rattle.gsd_format.specs.Bytes.{part, zeroIn}
+use Rattle.gsd_format.specs.Header.{layoutOf}
+use Rattle.gsd_format.specs.Names.{partsAt, nameParts, namesOf, bytesOf, flat}
+use Rattle.gsd_format.specs.Opening.{mostNames, unclosed, namesTest}
 use Rattle.gsd_format.proofs.Lists.{Each, each-append, each-so}
-use Rattle.gsd_format.proofs.Bytes.{Same, Text, same-tail, same-from, part-length, part-at}
-use Rattle.gsd_format.proofs.Texts.{byte-inside, text-head, text-tail, text-cons, text-front, text-back, text-append, text-same, text-part, part-text}
+use Rattle.gsd_format.proofs.Refusals.{both, none-of, unmet, passed, both-true, not-less, less-no}
+use Rattle.gsd_format.proofs.Ids.{Distinct, twins-distinct, distinct-twins}
+use Rattle.gsd_format.proofs.Bytes.{Same, Text, same-tail, same-from, no-zero, part-length, part-at}
+use Rattle.gsd_format.proofs.Texts.{byte-inside, text-head, text-tail, text-cons, text-front, text-back, text-append, text-kept, text-part, part-text}
 
 -- no name is empty, and no name has a zero byte
 pub record Named (b : List ℕ) : Type 0 where
   pub some : 0 < length b
   pub full : (k : ℕ) → k < length b → getD b k 0 ≡ 0 → ⊥
+
+pub named : (b : List ℕ) → 0 < length b → zeroIn b 0 (length b) ≡ false → Named b
+named b l h = record { some = l; full = λ k m z. no-zero b 0 (length b) h k m (ap (λ i. getD b i 0) (zero-add k) ∙ z) }
 
 -- the names ns stand from at on, within n bytes, whatever follows
 pub record Holds (x : List ℕ) (at n : ℕ) (ns : List (List ℕ)) : Type 0 where
@@ -34,6 +43,9 @@ pub record IsNames (x : List ℕ) (at n : ℕ) (ns : List (List ℕ)) : Type 0 w
   pub each : Text x at (flat ns)
   pub good : Each Named ns
   pub closed : length (flat ns) < n → getD x (at + length (flat ns)) 0 ≡ 0
+
+pub names-held : (x : List ℕ) (at n : ℕ) (ns : List (List ℕ)) → IsNames x at n ns → Holds x at n ns
+names-held x at n ns h = record { few = h .few; each = h .each; good = h .good }
 
 -- where names lie that are laid out from at on
 unfoldable pub partsOf : ℕ → List (List ℕ) → List Part
@@ -143,14 +155,27 @@ parts-after (b ∷ ns) x at n h t =
     ∙ ap (λ i. (record { start = at; size = length b } ∷ partsOf (at + length b + 1) ns) ++ partsAt x i i n)
     (let e : at + length b + 1 + length (flat ns) ≡ at + length (flat (b ∷ ns)) = omega (arith, flat-size b ns) in e)
 
+-- a name that no zero closes
+pub parts-open : (x : List ℕ) (start at n : ℕ) → ((k : ℕ) → k < n → getD x (at + k) 0 ≡ 0 → ⊥) → partsAt x start at n ≡ []
+parts-open x start at n h = ap (partsAt x start at) (sym (add-zero n)) ∙ parts-walk n x start at 0 h ∙ parts-none x start (at + n)
+
 -- Names and the walk
 
--- what stands there is what the walk lists
+-- names that stand there are listed, and they are all if nothing is listed behind them
+pub parts-all : (x : List ℕ) (at n : ℕ) (ns : List (List ℕ)) → Holds x at n ns →
+    partsAt x (at + length (flat ns)) (at + length (flat ns)) (n - length (flat ns)) ≡ [] → partsAt x at at n ≡ partsOf at ns
+parts-all x at n ns h e =
+    ap (partsAt x at at) (let q : n ≡ length (flat ns) + (n - length (flat ns)) = omega arith in q)
+    ∙ parts-after ns x at (n - length (flat ns)) (h .good) (h .each) ∙ ap (λ l. partsOf at ns ++ l) e ∙ append-nil (partsOf at ns)
+
+pub parts-rest : (x : List ℕ) (at n : ℕ) (ns : List (List ℕ)) → Holds x at n ns → partsAt x at at n ≡ partsOf at ns →
+    partsAt x (at + length (flat ns)) (at + length (flat ns)) (n - length (flat ns)) ≡ []
+parts-rest x at n ns h e = append-cancel-left (partsOf at ns) _ [] (
+    sym (parts-after ns x at (n - length (flat ns)) (h .good) (h .each))
+    ∙ ap (partsAt x at at) (let q : length (flat ns) + (n - length (flat ns)) ≡ n = omega arith in q) ∙ e ∙ sym (append-nil (partsOf at ns)))
+
 pub is-names : (x : List ℕ) (at n : ℕ) (ns : List (List ℕ)) → IsNames x at n ns → partsAt x at at n ≡ partsOf at ns
-is-names x at n ns h =
-    ap (partsAt x at at) (let e : n ≡ length (flat ns) + (n - length (flat ns)) = omega arith in e)
-    ∙ parts-after ns x at (n - length (flat ns)) (h .good) (h .each) ∙ ap (λ l. partsOf at ns ++ l) (go (n - length (flat ns)) (λ l. h .closed (omega arith)))
-    ∙ append-nil (partsOf at ns)
+is-names x at n ns h = parts-all x at n ns (names-held x at n ns h) (go (n - length (flat ns)) (λ l. h .closed (omega arith)))
   where
     go : (m : ℕ) → (0 < m → getD x (at + length (flat ns)) 0 ≡ 0) → partsAt x (at + length (flat ns)) (at + length (flat ns)) m ≡ []
     go zero z = parts-none x (at + length (flat ns)) (at + length (flat ns))
@@ -174,13 +199,21 @@ named-inside b [] x at h t =
     omega (arith, flat-size b [], ap length flat-none)
 named-inside b (c ∷ ns) x at h t = omega (arith, flat-size b (c ∷ ns), named-inside c ns x (at + length b + 1) (h .1) (text-name b (c ∷ ns) x at t .2))
 
-pub names-held : (ns : List (List ℕ)) (x : List ℕ) (at : ℕ) → Each Named ns → Text x at (flat ns) → map (bytesOf x) (partsOf at ns) ≡ ns
+pub names-back : (ns : List (List ℕ)) (x : List ℕ) (at : ℕ) → Each Named ns → Text x at (flat ns) → map (bytesOf x) (partsOf at ns) ≡ ns
 unfolding partsOf
-names-held [] x at h t = refl
-names-held (b ∷ ns) x at h t = names-read (b ∷ ns) x at (named-inside b ns x at h t) t
+names-back [] x at h t = refl
+names-back (b ∷ ns) x at h t = names-read (b ∷ ns) x at (named-inside b ns x at h t) t
 
 pub names-is : (x : List ℕ) (at n : ℕ) (ns : List (List ℕ)) → IsNames x at n ns → namesAt x at n ≡ ns
-names-is x at n ns h = ap (map (bytesOf x)) (is-names x at n ns h) ∙ names-held ns x at (h .good) (h .each)
+names-is x at n ns h = ap (map (bytesOf x)) (is-names x at n ns h) ∙ names-back ns x at (h .good) (h .each)
+
+-- the same where a name follows that no zero closes
+pub names-open : (x : List ℕ) (at n : ℕ) (ns : List (List ℕ)) → Holds x at n ns →
+    ((k : ℕ) → length (flat ns) ≤ k → k < n → getD x (at + k) 0 ≡ 0 → ⊥) → namesAt x at n ≡ ns
+names-open x at n ns h f =
+    ap (map (bytesOf x)) (parts-all x at n ns h (parts-open x (at + length (flat ns)) (at + length (flat ns)) (n - length (flat ns))
+    (λ k l z. f (length (flat ns) + k) (omega arith) (omega arith) (ap (λ i. getD x i 0) (let e : at + (length (flat ns) + k) ≡ at + length (flat ns) + k = omega arith in e) ∙ z))))
+    ∙ names-back ns x at (h .good) (h .each)
 
 -- What any image lists
 
@@ -262,7 +295,7 @@ found-names : (x : List ℕ) (a : ℕ) (y : List ℕ) (b n : ℕ) → Same y b x
 found-names x a y b n s =
     let h : Holds x a (0 + n) (found x a n .names) = found x a n .holds in
     ap (map (bytesOf y)) (found-parts x a y b n s)
-    ∙ names-held (found x a n .names) y b (h .good) (text-same x a y b (flat (found x a n .names)) (λ k l. s k (omega arith)) (h .each))
+    ∙ names-back (found x a n .names) y b (h .good) (text-kept x a y b (flat (found x a n .names)) (h .each) (λ k l. s k (omega arith)))
 
 -- the listed names stand in the block, at the listed places
 pub names-hold : (x : List ℕ) (at n : ℕ) → Holds x at n (namesAt x at n)
@@ -272,15 +305,33 @@ pub parts-listed : (x : List ℕ) (at n : ℕ) → partsAt x at at n ≡ partsOf
 parts-listed x at n = found-parts x at x at n (λ k l. refl) ∙ ap (partsOf at) (sym (found-names x at x at n (λ k l. refl)))
 
 -- the names depend on the block's bytes alone, and their places are as far from its start
-pub names-same : (x : List ℕ) (a : ℕ) (y : List ℕ) (b n : ℕ) → Same y b x a n → namesAt y b n ≡ namesAt x a n
-names-same x a y b n s = found-names x a y b n s ∙ sym (found-names x a x a n (λ k l. refl))
+pub names-same : (x : List ℕ) (a : ℕ) (y : List ℕ) (b n : ℕ) → Same x a y b n → namesAt x a n ≡ namesAt y b n
+names-same x a y b n s = found-names y b x a n s ∙ sym (found-names y b y b n (λ k l. refl))
 
-pub parts-same : (x : List ℕ) (a : ℕ) (y : List ℕ) (b n : ℕ) → Same y b x a n → partsAt y b b n ≡ partsOf b (namesAt x a n)
-parts-same x a y b n s = parts-listed y b n ∙ ap (partsOf b) (names-same x a y b n s)
+pub parts-same : (x : List ℕ) (a : ℕ) (y : List ℕ) (b n : ℕ) → Same x a y b n → partsAt x a a n ≡ partsOf a (namesAt y b n)
+parts-same x a y b n s = parts-listed x a n ∙ ap (partsOf a) (names-same x a y b n s)
 
 -- if the block ends behind them, or a zero follows, they are the list
 pub names-are : (x : List ℕ) (at n : ℕ) → (length (flat (namesAt x at n)) < n → getD x (at + length (flat (namesAt x at n))) 0 ≡ 0) → IsNames x at n (namesAt x at n)
 names-are x at n z = let h : Holds x at n (namesAt x at n) = names-hold x at n in record { few = h .few; each = h .each; good = h .good; closed = z }
+
+-- otherwise a name follows that no zero closes
+no-part : (n : ℕ) (x : List ℕ) (start at : ℕ) → start ≤ at → (start ≡ at → getD x at 0 ≡ 0 → ⊥) → partsAt x start at n ≡ [] →
+    (k : ℕ) → k < n → getD x (at + k) 0 ≡ 0 → ⊥
+no-part zero x start at b f e k l z = omega arith
+no-part (suc n) x start at b f e k l z = go (no-part n x start (at + 1) (omega arith) (λ q. absurd (omega arith))) (ℕ-discrete (getD x at 0) 0) k l z
+  where
+    go : (partsAt x start (at + 1) n ≡ [] → (k : ℕ) → k < n → getD x (at + 1 + k) 0 ≡ 0 → ⊥) → Dec (getD x at 0 ≡ 0) → (k : ℕ) → k < suc n → getD x (at + k) 0 ≡ 0 → ⊥
+    go g (yes q) k l z = omega (arith, ap length (sym (parts-close x start at n (λ d. f d q) q) ∙ e))
+    go g (no q) zero l z = q (ap (λ i. getD x i 0) (sym (add-zero at)) ∙ z)
+    go g (no q) (suc k) l z = g (sym (parts-on x start at n q) ∙ e) k (omega arith) (ap (λ i. getD x i 0) (let d : at + 1 + k ≡ at + suc k = omega arith in d) ∙ z)
+
+pub names-end : (x : List ℕ) (at n : ℕ) → (getD x (at + length (flat (namesAt x at n))) 0 ≡ 0 → ⊥) →
+    (k : ℕ) → length (flat (namesAt x at n)) ≤ k → k < n → getD x (at + k) 0 ≡ 0 → ⊥
+names-end x at n f k l m z =
+    let s : ℕ = length (flat (namesAt x at n)) in
+    no-part (n - s) x (at + s) (at + s) (omega arith) (λ e. f) (parts-rest x at n (namesAt x at n) (names-hold x at n) (parts-listed x at n)) (k - s) (omega arith)
+    (ap (λ i. getD x i 0) (let e : at + s + (k - s) ≡ at + k = omega arith in e) ∙ z)
 
 -- The places of the listed names
 
@@ -290,7 +341,7 @@ pub record Lies (x : List ℕ) (at n : ℕ) (p : Part) : Type 0 where
   pub high : p .start + p .size < at + n
   pub some : 0 < p .size
   pub full : (k : ℕ) → k < p .size → getD x (p .start + k) 0 ≡ 0 → ⊥
-  pub zero : getD x (p .start + p .size) 0 ≡ 0
+  pub closed : getD x (p .start + p .size) 0 ≡ 0
 
 pub holds-lie : (ns : List (List ℕ)) (x : List ℕ) (at n : ℕ) → Holds x at n ns → Each (Lies x at n) (partsOf at ns)
 unfolding partsOf
@@ -299,9 +350,9 @@ holds-lie (b ∷ ns) x at n h =
     let (t, z, r) = text-name b ns x at (h .each) in
     let g : Each (Lies x (at + length b + 1) (n - length b - 1)) (partsOf (at + length b + 1) ns)
     = holds-lie ns x (at + length b + 1) (n - length b - 1) (record { few = omega (arith, flat-size b ns); each = r; good = h .good .1 }) in (
-      record { low = omega arith; high = omega (arith, flat-size b ns); some = h .good .0 .some; full = λ k l e. h .good .0 .full k l (sym (t k l) ∙ e); zero = z },
+      record { low = omega arith; high = omega (arith, flat-size b ns); some = h .good .0 .some; full = λ k l e. h .good .0 .full k l (sym (t k l) ∙ e); closed = z },
       each-so (Lies x (at + length b + 1) (n - length b - 1)) (Lies x at n)
-          (λ p q. record { low = omega arith; high = omega (arith, flat-size b ns); some = q .some; full = q .full; zero = q .zero }) (partsOf (at + length b + 1) ns) g,
+          (λ p q. record { low = omega arith; high = omega (arith, flat-size b ns); some = q .some; full = q .full; closed = q .closed }) (partsOf (at + length b + 1) ns) g,
     )
 
 pub parts-lie : (x : List ℕ) (at n : ℕ) → Each (Lies x at n) (partsAt x at at n)
@@ -336,7 +387,7 @@ parts-at (b ∷ ns) at (suc i) d l =
 -- the same names' bytes at another place, in a block of another size
 pub names-kept : (x : List ℕ) (a n : ℕ) (ns : List (List ℕ)) (y : List ℕ) (b m : ℕ) → IsNames x a n ns → Same y b x a (length (flat ns)) →
     length (flat ns) ≤ m → (length (flat ns) < m → getD y (b + length (flat ns)) 0 ≡ 0) → IsNames y b m ns
-names-kept x a n ns y b m h s f z = record { few = f; each = text-same x a y b (flat ns) s (h .each); good = h .good; closed = z }
+names-kept x a n ns y b m h s f z = record { few = f; each = text-kept x a y b (flat ns) (h .each) s; good = h .good; closed = z }
 
 -- one more name behind those that stand there. The zero behind these is gone, so only that they stand there is asked
 pub names-grown : (x : List ℕ) (at n : ℕ) (ns : List (List ℕ)) (b : List ℕ) → Text x at (flat ns) → Each Named ns → Named b →
@@ -351,3 +402,64 @@ names-grown x at n ns b t g h f r z c =
       good = each-append Named ns (b ∷ []) g (h, tt);
       closed = λ l. ap (λ i. getD x i 0) (let q : at + length (flat (ns ++ b ∷ [])) ≡ at + length (flat ns) + length b + 1 = omega arith in q) ∙ c (omega arith);
     }
+
+-- The name list of an image
+
+-- its listed names and their places, in the block that its header tells
+pub names-of : (x : List ℕ) → namesOf x ≡ namesAt x (layoutOf x .namelist) (64 * layoutOf x .segments)
+unfolding namesOf nameParts
+names-of x = refl
+
+pub parts-of : (x : List ℕ) → nameParts x ≡ partsOf (layoutOf x .namelist) (namesOf x)
+unfolding namesOf nameParts
+parts-of x = parts-listed x (layoutOf x .namelist) (64 * layoutOf x .segments)
+
+-- what stands in the block is what is listed
+pub is-namesOf : (x : List ℕ) (ns : List (List ℕ)) → IsNames x (layoutOf x .namelist) (64 * layoutOf x .segments) ns → namesOf x ≡ ns
+is-namesOf x ns h = names-of x ∙ names-is x (layoutOf x .namelist) (64 * layoutOf x .segments) ns h
+
+-- blocks of the same bytes list the same names
+pub namesOf-same : (x y : List ℕ) → layoutOf x .segments ≡ layoutOf y .segments →
+    Same x (layoutOf x .namelist) y (layoutOf y .namelist) (64 * layoutOf y .segments) → namesOf x ≡ namesOf y
+namesOf-same x y e s =
+    names-of x ∙ ap (λ n. namesAt x (layoutOf x .namelist) (64 * n)) e
+    ∙ names-same x (layoutOf x .namelist) y (layoutOf y .namelist) (64 * layoutOf y .segments) s ∙ sym (names-of y)
+
+-- behind the closed names the block ends, or a zero follows, exactly when the test does not hold
+pub closed-zero : (x : List ℕ) (l : Layout) (ns : List (List ℕ)) → unclosed x l ns ≡ false → length (flat ns) < 64 * l .segments → getD x (l .namelist + length (flat ns)) 0 ≡ 0
+closed-zero x l ns h f =
+    eqb-true (getD x (l .namelist + length (flat ns)) 0) 0 (not-false (eqb (getD x (l .namelist + length (flat ns)) 0) 0) (rw (lt-ltb (length (flat ns)) (64 * l .segments) f) at h))
+
+pub zero-closed : (x : List ℕ) (l : Layout) (ns : List (List ℕ)) → (length (flat ns) < 64 * l .segments → getD x (l .namelist + length (flat ns)) 0 ≡ 0) → unclosed x l ns ≡ false
+zero-closed x l ns f = go (decLt (length (flat ns)) (64 * l .segments))
+  where
+    go : Dec (length (flat ns) < 64 * l .segments) → unclosed x l ns ≡ false
+    go (yes m) = rw (lt-ltb (length (flat ns)) (64 * l .segments) m, f m)
+    go (no m) = rw (le-ltb (length (flat ns)) (64 * l .segments) (omega arith))
+
+pub namesOf-are : (x : List ℕ) → unclosed x (layoutOf x) (namesOf x) ≡ false → IsNames x (layoutOf x .namelist) (64 * layoutOf x .segments) (namesOf x)
+unfolding namesOf nameParts
+namesOf-are x h = names-are x (layoutOf x .namelist) (64 * layoutOf x .segments) (closed-zero x (layoutOf x) (namesOf x) h)
+
+-- where it holds, a name begins there and no zero closes it before the block ends
+pub namesOf-end : (x : List ℕ) → unclosed x (layoutOf x) (namesOf x) ≡ true → (length (flat (namesOf x)) < 64 * layoutOf x .segments)
+    × ((k : ℕ) → length (flat (namesOf x)) ≤ k → k < 64 * layoutOf x .segments → getD x (layoutOf x .namelist + k) 0 ≡ 0 → ⊥)
+unfolding namesOf nameParts
+namesOf-end x h =
+    let e : ℕ = layoutOf x .namelist + length (flat (namesOf x)) in
+    let (f, z) = both-true (ltb (length (flat (namesOf x))) (64 * layoutOf x .segments)) (not (eqb (getD x e 0) 0)) h in (
+      ltb-true (length (flat (namesOf x))) (64 * layoutOf x .segments) f,
+      names-end x (layoutOf x .namelist) (64 * layoutOf x .segments) (eqb-false (getD x e 0) 0 (not-true (eqb (getD x e 0) 0) z)),
+    )
+
+-- 9 to 11 refuse nothing exactly when the list is closed, has at most 1,024 names, and no two are equal
+pub names-pass : (x : List ℕ) (l : Layout) (ns : List (List ℕ)) → namesTest x l ns ≡ 0 → (unclosed x l ns ≡ false) × (length ns ≤ mostNames) × Distinct ns
+unfolding namesTest
+names-pass x l ns h =
+    let (a, r) = both _ _ h in
+    let (b, c) = both _ _ r in
+    (unmet _ 8 a, not-less mostNames (length ns) 9 b, twins-distinct ns (unmet _ 10 c))
+
+pub pass-names : (x : List ℕ) (l : Layout) (ns : List (List ℕ)) → unclosed x l ns ≡ false → length ns ≤ mostNames → Distinct ns → namesTest x l ns ≡ 0
+unfolding namesTest
+pass-names x l ns h f d = none-of _ _ (passed _ 9 h) (none-of _ _ (less-no mostNames (length ns) 10 f) (passed _ 11 (distinct-twins ns d)))

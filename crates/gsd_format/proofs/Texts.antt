@@ -1,7 +1,7 @@
 -- Texts in an image: how one is put together and taken apart, and that it stands wherever its bytes stand.
 use Prim.Native.Nat.{ℕ, zero, suc, _+_, _-_, _≤_, _<_}
-use mathlib.Core.Path.{_≡_, refl, sym, _∙_, ap}
-use mathlib.Core.List.{List, [], _∷_, _++_}
+use mathlib.Core.Path.{_≡_, sym, _∙_, ap}
+use mathlib.Core.List.{List, _∷_, _++_}
 use native.Mathlib.Nat.{add-zero}
 use native.Mathlib.Decide.{decLt}
 use native.Mathlib.Omega.{arith}
@@ -46,9 +46,9 @@ text-append x at b r h g k l = go (decLt k (length b))
         ap (λ i. getD x i 0) (let e : at + k ≡ at + length b + j = omega arith in e) ∙ g j (omega (arith, length-append b r))
         ∙ sym (getD-append-add b r j 0) ∙ ap (λ i. getD (b ++ r) i 0) (let e : length b + j ≡ k = omega arith in e)
 
--- the same bytes are the same text
-pub text-same : (x : List ℕ) (a : ℕ) (y : List ℕ) (b : ℕ) (t : List ℕ) → Same y b x a (length t) → Text x a t → Text y b t
-text-same x a y b t s h k l = s k l ∙ h k l
+-- a text stands wherever the same bytes stand
+pub text-kept : (x : List ℕ) (a : ℕ) (y : List ℕ) (b : ℕ) (t : List ℕ) → Text x a t → Same y b x a (length t) → Text y b t
+text-kept x a y b t h s k l = s k l ∙ h k l
 
 pub same-text : (x : List ℕ) (a : ℕ) (y : List ℕ) (b : ℕ) (t : List ℕ) → Text x a t → Text y b t → Same x a y b (length t)
 same-text x a y b t h g k l = h k l ∙ sym (g k l)
