@@ -1,3 +1,5 @@
 -- Laws of this crate's tests.
 pub mod Blocks
 pub mod EntryTests
+-- Laws that the proofs of reading share.
+pub mod NameLists
