@@ -2,13 +2,13 @@
 use Prim.Native.Nat.{ℕ, zero, suc, _+_, _*_, _/_, _%_, _^_, _≤_, _<_, max, min}
 use mathlib.Core.Path.{_≡_, refl, sym, _∙_, ap}
 use mathlib.Core.Bool.{Bool, true, false, true≢false}
-use mathlib.Core.List.{List, [], _∷_}
-use native.Mathlib.Nat.{add-zero, add-assoc, pow-suc}
+use mathlib.Core.List.{List, [], _∷_, _++_}
+use native.Mathlib.Nat.{add-zero, zero-add, add-assoc, suc-add, pow-suc, pow-succ', div-one, div-div-eq-div-mul}
 use native.Mathlib.Numerals.{add-one}
 use native.Mathlib.Decide.{ℕ-discrete, decLt}
 use native.Mathlib.Omega.{arith}
-use lib.ListN.{length, getD, set, length-set, length-take, length-drop}
-use lib.Seq.{getD-set-same, getD-set-other, getD-take, getD-drop, ext-getD}
+use lib.ListN.{length, getD, set, take, drop, length-set, length-take, length-drop}
+use lib.Seq.{getD-set-same, getD-set-other, getD-take, getD-drop, ext-getD, sets, sets-eq}
 use lib.Dec.{eqb}
 use borrow.Author.Tests.{eqb-true, eqb-false, eq-eqb, ne-eqb, ltb-false, le-ltb}
 use Rattle.gsd_format.specs.Bytes.{le, leBytes, part, same, zeroIn, stored, meets}
@@ -76,7 +76,17 @@ le-back (suc n) w h =
 pub le-text : (n w : ℕ) (x : List ℕ) (at : ℕ) → w < 256 ^ n → Text x at (leBytes n w) → le n x at ≡ w
 le-text n w x at h t = le-same n x at (leBytes n w) 0 (λ k l. t k (rw leBytes-length l) ∙ ap (λ i. getD (leBytes n w) i 0) (omega arith)) ∙ le-back n w h
 
--- numbers of four and eight bytes by their halves
+-- the bytes of a number: the low m, then the n of what is left
+pub leBytes-append : (m n w : ℕ) → leBytes (m + n) w ≡ leBytes m w ++ leBytes n (w / 256 ^ m)
+unfolding leBytes
+leBytes-append zero n w = rw (zero-add, div-one)
+leBytes-append (suc m) n w = rw (suc-add, pow-succ', ← div-div-eq-div-mul, leBytes) (ap (λ l. w % 256 ∷ l) (leBytes-append m n (w / 256)))
+
+-- numbers of two, four and eight bytes by their halves
+pub le-two : (s : List ℕ) (i : ℕ) → le 2 s i ≡ getD s i 0 + 256 * getD s (i + 1) 0
+unfolding le
+le-two s i = omega arith
+
 pub le-four : (s : List ℕ) (i : ℕ) → le 4 s i ≡ le 2 s i + 65536 * le 2 s (i + 2)
 unfolding le
 le-four s i = simp add-assoc (omega arith)
@@ -206,6 +216,35 @@ stored-inside s i (b ∷ bs) zero h l = rw add-zero (stored-below (set s i b) (i
 stored-inside s i (b ∷ bs) (suc k) h l =
     ap (λ (n : ℕ). getD (stored (set s i b) (i + 1) bs) n 0) (omega arith)
     ∙ stored-inside (set s i b) (i + 1) bs k (simp length-set (omega arith)) (omega arith)
+
+-- one text stored behind another is the two in a row; so is one byte behind a text, as a loop stores it
+pub stored-append : (s : List ℕ) (i : ℕ) (a b : List ℕ) → stored s i (a ++ b) ≡ stored (stored s i a) (i + length a) b
+unfolding stored
+stored-append s i [] b = rw add-zero
+stored-append s i (x ∷ a) b = stored-append (set s i x) (i + 1) a b ∙ ap (λ k. stored (stored (set s i x) (i + 1) a) k b) (omega arith)
+
+pub stored-more : (s : List ℕ) (i : ℕ) (bs : List ℕ) (b : ℕ) → set (stored s i bs) (i + length bs) b ≡ stored s i (bs ++ (b ∷ []))
+unfolding stored
+stored-more s i bs b = sym (stored-append s i bs (b ∷ []))
+
+-- four and eight bytes as their stores come
+pub stored-four : (s : List ℕ) (i w : ℕ)
+    → set (set (set (set s i (w % 256)) (i + 1) (w / 256 % 256)) (i + 2) (w / 256 / 256 % 256)) (i + 3) (w / 256 / 256 / 256 % 256) ≡ stored s i (leBytes 4 w)
+unfolding stored leBytes
+stored-four s i w = simp add-assoc
+
+pub stored-eight : (s : List ℕ) (i w : ℕ) → stored (stored s i (leBytes 4 w)) (i + 4) (leBytes 4 (w / 4294967296)) ≡ stored s i (leBytes 8 w)
+stored-eight s i w = ap (λ n. stored (stored s i (leBytes 4 w)) (i + n) (leBytes 4 (w / 4294967296))) (sym (leBytes-length 4 w))
+    ∙ sym (stored-append s i (leBytes 4 w) (leBytes 4 (w / 4294967296))) ∙ ap (stored s i) (sym (leBytes-append 4 4 w))
+
+-- what was stored, between what was before and behind
+pub stored-paste : (s : List ℕ) (i : ℕ) (bs : List ℕ) → i + length bs ≤ length s → stored s i bs ≡ take i s ++ bs ++ drop (i + length bs) s
+unfolding stored
+stored-paste s i bs h = as-sets s i bs ∙ sets-eq bs s i h
+  where
+    as-sets : (s : List ℕ) (i : ℕ) (bs : List ℕ) → stored s i bs ≡ sets s i bs
+    as-sets s i [] = refl
+    as-sets s i (b ∷ bs) = rw add-one (as-sets (set s i b) (suc i) bs)
 
 -- a word that is stored reads back
 pub stored-back : (s : List ℕ) (i n w : ℕ) → i + n ≤ length s → w < 256 ^ n → le n (stored s i (leBytes n w)) i ≡ w
