@@ -1,0 +1,2 @@
+// Reading an image.
+mod elements;
