@@ -11,3 +11,4 @@ pub mod Walk
 pub mod Verdict
 pub mod Lookup
 pub mod Create
+pub mod Elements
