@@ -1,8 +1,6 @@
--- Laws of this crate's tests.
+-- Laws that the proofs of reading share.
 pub mod Blocks
 pub mod EntryTests
--- Laws that the proofs of reading share.
 pub mod NameLists
--- Laws that belong to no one function.
 pub mod Floats
 pub mod Signed
