@@ -4,3 +4,4 @@ pub mod EntryTests
 pub mod NameLists
 pub mod Floats
 pub mod Signed
+pub mod Surveys

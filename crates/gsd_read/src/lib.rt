@@ -4,3 +4,4 @@ mod header;
 mod index;
 mod names;
 mod stretch;
+mod survey;
