@@ -5,3 +5,4 @@ pub mod NameLists
 pub mod Floats
 pub mod Signed
 pub mod Surveys
+pub mod Found
