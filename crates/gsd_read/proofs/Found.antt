@@ -1,5 +1,5 @@
 -- Laws of what is found: the search for an entry slot by slot, and that names and chunks lie in the image.
-use Prim.Native.Nat.{ℕ, zero, suc, _+_, _*_, _≤_, _<_}
+use Prim.Native.Nat.{ℕ, zero, suc, _+_, _*_, _-_, _≤_, _<_}
 use mathlib.Core.Path.{_≡_, refl, sym, _∙_, ap}
 use mathlib.Core.Bool.{true, false, _&&_}
 use mathlib.Core.List.{List, [], _∷_}
@@ -24,6 +24,7 @@ use Rattle.gsd_format.proofs.Lists.{each-at}
 use Rattle.gsd_format.proofs.Names.{Lies, parts-lie}
 use Rattle.gsd_format.proofs.Verdict.{Sound, verdict-zero}
 use Rattle.gsd_format.proofs.Lookup.{find-end, find-sound, look-found, opened-lookup, opened-name, opened-no-name, refused-name, found-opens}
+use Rattle.gsd_read.specs.Index.{Capped}
 use Rattle.gsd_read.specs.Surveys.{Inside}
 use Rattle.gsd_read.proofs.Surveys.{layout-length, slot-entry}
 
@@ -61,9 +62,9 @@ module _ (img : List ℕ) (place : Place) where
   unfolding Inside
   inside-at p e h = rw e at h
 
-  pub bytes-at : (p : Part) → place ≡ Place.At p → bytesAt img place ≡ part img (p .start) (p .size)
+  pub bytes-at : (p : Part) → place ≡ Place.At p → bytesAt img place ≡ part img (p .start) (p .start + p .size - p .start)
   unfolding bytesAt
-  bytes-at p e = ap (bytesAt img) e
+  bytes-at p e = ap (bytesAt img) e ∙ ap (part img (p .start)) (let q : p .size ≡ p .start + p .size - p .start = omega arith in q)
 
   pub bytes-none : (n : ℕ) → place ≡ Place.Refused n → bytesAt img place ≡ []
   unfolding bytesAt
@@ -94,6 +95,17 @@ module _ (img : List ℕ) (frame : ℕ) (name : List ℕ) (e : Entry) (found : l
 
   pub found-short : length img ≤ greatestLength
   found-short = verdict-zero img .0 (found-opens img frame name e found) .front .high
+
+  -- its place, by its size as code keeps it
+  pub place-found : (size : ℕ) → Capped (chunkSize e) size → chunkPlace img frame name ≡ Place.At (record { start = e .location; size = size })
+  unfolding chunkPlace placed
+  place-found size c =
+      ap placed found ∙ (λ i. Place.At (record { start = e .location; size = sym (c .exact (omega (arith, found-within, found-short))) i }))
+
+pub place-refused : (img : List ℕ) (frame : ℕ) (name : List ℕ) (n : ℕ) → lookup img frame name ≡ Listed.Refused n →
+    chunkPlace img frame name ≡ Place.Refused n
+unfolding chunkPlace placed
+place-refused img frame name n h = ap placed h
 
 pub chunk-inside : (img : List ℕ) (frame : ℕ) (name : List ℕ) → Inside img (chunkPlace img frame name)
 unfolding Inside chunkPlace placed

@@ -4,20 +4,13 @@ use Rattle.gsd_read.proofs.Found.{chunk-inside}
 use borrow.Author.Needs.{needs}
 use Rattle.gsd_read.proofs.lookup.chunk.Statement.{statement}
 use Rattle.gsd_read.proofs.lookup.chunk.Tie as tie
-use Rattle.gsd_read.proofs.lookup.chunk.Reads as reads
-use Rattle.gsd_read.proofs.lookup.chunk.Lts as lts
-use Rattle.gsd_read.proofs.lookup.chunk_place.Reads as chunk-place-reads
-use Rattle.gsd_read.proofs.lookup.part_at.Reads as part-at-reads
 
--- src/lookup.rt:147:9
 chunk-place-requires : tie.Need-chunk-place-requires
 chunk-place-requires c κs = search needs
 
--- src/lookup.rt:148:5
 part-at-requires : tie.Need-part-at-requires
 part-at-requires c κs = rw (c .chunk-place .ensures) (chunk-inside _ _ _)
 
--- src/lookup.rt:144:1
 returns : tie.Need-returns
 returns c = c .part-at .ensures ∙ ap (bytesAt _) (c .before .chunk-place .ensures)
 

@@ -6,36 +6,25 @@ use Rattle.gsd_format.proofs.Lookup.{refused-entry}
 use Rattle.gsd_read.proofs.Surveys.{passed-on, entry-within, entry-there, no-entry}
 use Rattle.gsd_read.proofs.lookup.entry.Statement.{statement}
 use Rattle.gsd_read.proofs.lookup.entry.Tie as tie
-use Rattle.gsd_read.proofs.lookup.entry.Reads as reads
-use Rattle.gsd_read.proofs.lookup.entry.Lts as lts
-use Rattle.gsd_read.proofs.index.entry_at.Reads as entry-at-reads
-use Rattle.gsd_read.proofs.survey.survey_of.Reads as survey-of-reads
 
--- src/lookup.rt:41:9
 survey-of-requires : tie.Need-survey-of-requires
 survey-of-requires c κs = search needs
 
--- src/lookup.rt:43:9
 returns : tie.Need-returns
 returns c = passed-on _ Listed.Refused _ (λ k r. refused-entry _ k r _) _ (c .before .before .survey-of .ensures .number) (c .if1 .taken)
 
--- src/lookup.rt:46:9
 returns-2 : tie.Need-returns-2
 returns-2 c = sym (no-entry _ _ (c .before .before .before .before .survey-of .ensures) (c .before .before .if1 .left) _ (c .if2 .taken))
 
--- src/lookup.rt:48:53
 mul-entry-at : tie.Need-mul-entry-at
 mul-entry-at c = omega (arith, entry-within _ _ (c .before .before .before .before .survey-of .ensures) (c .before .before .if1 .left) _ (c .if2 .left))
 
--- src/lookup.rt:48:36
 add-entry-at : tie.Need-add-entry-at
 add-entry-at c = omega (arith, entry-within _ _ (c .before .before .before .before .before .survey-of .ensures) (c .before .before .before .if1 .left) _ (c .before .if2 .left))
 
--- src/lookup.rt:48:19
 entry-at-requires : tie.Need-entry-at-requires
 entry-at-requires c κs = entry-within _ _ (c .before .before .before .before .before .survey-of .ensures) (c .before .before .before .if1 .left) _ (c .before .if2 .left)
 
--- src/lookup.rt:38:1
 returns-3 : tie.Need-returns-3
 returns-3 c = ap Listed.Found (c .entry-at .ensures) ∙ sym (entry-there _ _ (c .before .before .before .before .before .before .survey-of .ensures) (c .before .before .before .before .if1 .left) _ (c .before .before .if2 .left))
 

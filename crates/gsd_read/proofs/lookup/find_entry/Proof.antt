@@ -9,10 +9,6 @@ use Rattle.gsd_read.proofs.Surveys.{slot-within}
 use Rattle.gsd_read.proofs.Found.{found-here, found-on, found-none}
 use Rattle.gsd_read.proofs.lookup.find_entry.Statement.{statement}
 use Rattle.gsd_read.proofs.lookup.find_entry.Tie as tie
-use Rattle.gsd_read.proofs.lookup.find_entry.Reads as reads
-use Rattle.gsd_read.proofs.lookup.find_entry.Lts as lts
-use Rattle.gsd_read.proofs.index.entry_at.Reads as entry-at-reads
-use Rattle.gsd_read.proofs.lookup.matches.Reads as matches-reads
 
 abbrev Inv-loop : tie.InvT-loop
 Inv-loop image index count frame id at₀ i₀ at i = (i ≤ count) × (at ≡ index + 32 * i) × (findEntry frame id (entriesOf image) ≡ findEntry frame id (drop i (entriesOf image)))
@@ -20,43 +16,34 @@ Inv-loop image index count frame id at₀ i₀ at i = (i ≤ count) × (at ≡ i
 abbrev μ-loop : tie.MeasureT-loop
 μ-loop image index count frame id at₀ i₀ at i = count - i
 
--- src/lookup.rt:101:5
 loop-holds : tie.Need-loop-holds Inv-loop μ-loop
 loop-holds c = (omega arith, omega arith, refl)
 
--- src/lookup.rt:102:13
 entry-at-requires : tie.Need-entry-at-requires Inv-loop μ-loop
 entry-at-requires c κs = omega (arith, slot-within _ (c .before .before .before .pre .0) (c .before .loop .i) (omega arith))
 
--- src/lookup.rt:103:12
 matches-requires : tie.Need-matches-requires Inv-loop μ-loop
 matches-requires c κs = search needs
 
--- src/lookup.rt:104:13
 returns : tie.Need-returns Inv-loop μ-loop
 returns c =
     let found = found-here _ (c .before .before .before .before .before .before .pre .0) (c .before .before .before .before .loop .i) (omega arith) (c .before .before .before .before .loop .at) (omega arith) _ _ _ (c .before .before .entry-at .ensures) (sym (c .before .matches .ensures) ∙ c .if1 .taken) in
     sym (c .before .before .before .before .loop .inv .2 ∙ found)
 
--- src/lookup.rt:106:9
 add-at : tie.Need-add-at Inv-loop μ-loop
 add-at c = omega (arith, slot-within _ (c .before .before .before .before .before .before .pre .0) (c .before .before .before .before .loop .i) (omega arith))
 
--- src/lookup.rt:107:9
 add-i : tie.Need-add-i Inv-loop μ-loop
 add-i c = search needs
 
--- src/lookup.rt:101:5
 loop-less : tie.Need-loop-less Inv-loop μ-loop
 loop-less c = search needs
 
--- src/lookup.rt:101:5
 loop-again : tie.Need-loop-again Inv-loop μ-loop
 loop-again c =
     let passed = found-on _ (c .before .before .before .before .before .before .pre .0) (c .before .before .before .before .loop .i) (omega arith) (c .before .before .before .before .loop .at) (omega arith) _ _ _ (c .before .before .entry-at .ensures) (sym (c .before .matches .ensures) ∙ c .if1 .left) in
     (omega arith, omega arith, c .before .before .before .before .loop .inv .2 ∙ passed)
 
--- src/lookup.rt:95:1
 returns-2 : tie.Need-returns-2 Inv-loop μ-loop
 returns-2 c = sym (c .before .loop .inv .2 ∙ found-none _ _ (entriesOf _) (c .before .loop .i) (omega arith))
 

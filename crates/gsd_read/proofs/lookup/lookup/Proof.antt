@@ -6,39 +6,27 @@ use Rattle.gsd_read.proofs.Surveys.{passed-on, opens, spans, index-ther
 use borrow.Author.Needs.{needs}
 use Rattle.gsd_read.proofs.lookup.lookup.Statement.{statement}
 use Rattle.gsd_read.proofs.lookup.lookup.Tie as tie
-use Rattle.gsd_read.proofs.lookup.lookup.Reads as reads
-use Rattle.gsd_read.proofs.lookup.lookup.Lts as lts
-use Rattle.gsd_read.proofs.lookup.find_entry.Reads as find-entry-reads
-use Rattle.gsd_read.proofs.names.find_name.Reads as find-name-reads
-use Rattle.gsd_read.proofs.survey.survey_of.Reads as survey-of-reads
 
--- src/lookup.rt:116:13
 survey-of-requires : tie.Need-survey-of-requires
 survey-of-requires c κs = search needs
 
--- src/lookup.rt:118:9
 returns : tie.Need-returns
 returns c = passed-on _ Listed.Refused _ (λ k r. refused-lookup _ k r _ _) _ (c .before .survey-of .ensures .number) (c .if1 .taken)
 
--- src/lookup.rt:121:9
 returns-2 : tie.Need-returns-2
 returns-2 c = sym (no-frame _ _ (c .before .before .survey-of .ensures) (c .before .if1 .left) _ _ (c .if2 .taken))
 
--- src/lookup.rt:124:9
 find-name-requires : tie.Need-find-name-requires
 find-name-requires c κs = spans _ _ (c .before .before .before .before .survey-of .ensures) (c .before .before .before .if1 .left)
 
--- src/lookup.rt:126:9
 returns-3 : tie.Need-returns-3
 returns-3 c = sym (not-listed _ _ (c .before .before .before .before .before .before .survey-of .ensures) (c .before .before .before .before .before .if1 .left) _ _ _ (c .before .find-name .ensures) (c .before .before .before .before .if2 .left) (c .if3 .taken))
 
--- src/lookup.rt:128:5
 find-entry-requires : tie.Need-find-entry-requires
 find-entry-requires c κs =
     let told = c .before .before .before .before .before .before .survey-of .ensures in
     (opens _ _ told (c .before .before .before .before .before .if1 .left), index-there _ _ told (c .before .before .before .before .before .if1 .left), told .entries (c .before .before .before .before .before .if1 .left))
 
--- src/lookup.rt:113:1
 returns-4 : tie.Need-returns-4
 returns-4 c = c .find-entry .ensures ∙ sym (look-on _ _ (c .before .before .before .before .before .before .before .survey-of .ensures) (c .before .before .before .before .before .before .if1 .left) _ _ _ (c .before .before .find-name .ensures) (c .before .before .before .before .before .if2 .left) (c .before .if3 .left))
 

@@ -2,18 +2,13 @@ use borrow.Author.Tests.{ne-eqb, eq-eqb}
 use borrow.Author.Needs.{needs}
 use Rattle.gsd_read.proofs.lookup.matches.Statement.{statement}
 use Rattle.gsd_read.proofs.lookup.matches.Tie as tie
-use Rattle.gsd_read.proofs.lookup.matches.Reads as reads
-use Rattle.gsd_read.proofs.lookup.matches.Lts as lts
 
--- src/lookup.rt:89:9
 returns : tie.Need-returns
 returns c = rw (ne-eqb _ _ (c .if1 .taken))
 
--- src/lookup.rt:91:5
 cast-result : tie.Need-cast-result
 cast-result c = search needs
 
--- src/lookup.rt:85:1
 returns-2 : tie.Need-returns-2
 returns-2 c = rw (eq-eqb _ _ (c .before .if1 .left))
 

@@ -5,28 +5,19 @@ use Rattle.gsd_format.proofs.Lookup.{refused-name}
 use Rattle.gsd_read.proofs.Surveys.{passed-on, spans, name-there, no-name}
 use Rattle.gsd_read.proofs.lookup.name.Statement.{statement}
 use Rattle.gsd_read.proofs.lookup.name.Tie as tie
-use Rattle.gsd_read.proofs.lookup.name.Reads as reads
-use Rattle.gsd_read.proofs.lookup.name.Lts as lts
-use Rattle.gsd_read.proofs.names.name_part.Reads as name-part-reads
-use Rattle.gsd_read.proofs.survey.survey_of.Reads as survey-of-reads
 
--- src/lookup.rt:54:13
 survey-of-requires : tie.Need-survey-of-requires
 survey-of-requires c κs = search needs
 
--- src/lookup.rt:56:9
 returns : tie.Need-returns
 returns c = passed-on _ Place.Refused _ (λ k r. refused-name _ k r _) _ (c .before .survey-of .ensures .number) (c .if1 .taken)
 
--- src/lookup.rt:59:9
 returns-2 : tie.Need-returns-2
 returns-2 c = sym (no-name _ _ (c .before .before .survey-of .ensures) (c .before .if1 .left) _ (c .if2 .taken))
 
--- src/lookup.rt:61:15
 name-part-requires : tie.Need-name-part-requires
 name-part-requires c κs = let span = spans _ _ (c .before .before .before .before .survey-of .ensures) (c .before .before .before .if1 .left) _ (c .before .before .if2 .left) in (span .kept, span .some)
 
--- src/lookup.rt:51:1
 returns-3 : tie.Need-returns-3
 returns-3 c = ap Place.At (c .name-part .ensures) ∙ sym (name-there _ _ (c .before .before .before .before .before .survey-of .ensures) (c .before .before .before .before .if1 .left) _ (c .before .before .before .if2 .left))
 

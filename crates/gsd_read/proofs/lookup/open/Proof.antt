@@ -5,19 +5,13 @@ use Rattle.gsd_format.proofs.Verdict.{opening-refused}
 use Rattle.gsd_read.proofs.Surveys.{passed-on, opened}
 use Rattle.gsd_read.proofs.lookup.open.Statement.{statement}
 use Rattle.gsd_read.proofs.lookup.open.Tie as tie
-use Rattle.gsd_read.proofs.lookup.open.Reads as reads
-use Rattle.gsd_read.proofs.lookup.open.Lts as lts
-use Rattle.gsd_read.proofs.survey.survey_of.Reads as survey-of-reads
 
--- src/lookup.rt:27:9
 survey-of-requires : tie.Need-survey-of-requires
 survey-of-requires c κs = search needs
 
--- src/lookup.rt:29:9
 returns : tie.Need-returns
 returns c = passed-on _ Opening.Refused _ (opening-refused _) _ (c .before .before .survey-of .ensures .number) (c .if1 .taken)
 
--- src/lookup.rt:24:1
 returns-2 : tie.Need-returns-2
 returns-2 c = sym (opened _ _ (c .before .before .survey-of .ensures) (c .if1 .left))
 
