@@ -23,7 +23,7 @@ unfolding orDefault
 default-spared zero usual e = absurd (e refl)
 default-spared (suc n) usual e = refl
 
--- create's number, test by test
+-- create's number by the test that decides it
 module _ (len : ℕ) (application schema : List ℕ) (slots segments : ℕ) where
   pub test-length : greatestLength < len → createTest len application schema slots segments ≡ 2
   unfolding createTest _⇒_ _▹_
@@ -56,7 +56,7 @@ text-length t h = ltb-false 63 (length t) (neither (ltb 63 (length t)) (zeroIn t
 pub takes : (len : ℕ) (application schema : List ℕ) (slots segments : ℕ) → createTest len application schema slots segments ≡ 0 → Takes len application schema slots segments
 unfolding createTest
 takes len a s slots segments h =
-    let numbers = both _ _ h .1 in
+    let numbers : (ltb 65536 slots || ltb 65536 segments ⇒ 50) ▹ (badText a || badText s ⇒ 51) ▹ (ltb len (freshLength slots segments) ⇒ 52) ≡ 0 = both _ _ h .1 in
     let texts = both _ _ numbers .1 in
     let blocks = neither _ _ (unmet _ 49 (both _ _ numbers .0)) in
     let good = neither _ _ (unmet _ 50 (both _ _ texts .0)) in
