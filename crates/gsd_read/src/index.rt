@@ -13,7 +13,7 @@ ghost use Prim.Native.Nat.{_+_, _*_, _^_, _≤_, _<_};
 ghost use lib.ListN.{length};
 ghost use Rattle.gsd_format.specs.Types.{sizeOf, chunkSize};
 ghost use Rattle.gsd_format.specs.Header.{greatestLength};
-ghost use Rattle.gsd_format.specs.Entries.{entryAt, entriesAt};
+ghost use Rattle.gsd_format.specs.Entries.{entryAt, entriesAt, key};
 ghost use Rattle.gsd_format.specs.Opening.{entryTest};
 ghost use Rattle.gsd_format.proofs.Verdict.{Blocks};
 ghost use Rattle.gsd_read.specs.Index.{Capped, fieldsTest, roomTest, Walks};
@@ -49,6 +49,14 @@ pub fn chunk_bytes(n: u64, m: u32, kind: u8) -> u64
     lesser(n, 1073741825) * lesser(m as u64 * size_of(kind), 1073741825)
 }
 
+// (frame, id) in its order, as one number.
+fn key_of(e: Entry) -> u64
+    requires { ⌜ e .frame < 2 ^ 47 ⌝ }
+    ensures { λ r. ⌜ (r ≡ key e) × (r < 2 ^ 63) ⌝ }
+{
+    65536 * e.frame + (e.id as u64)
+}
+
 // 12 to 15: the entry by itself and behind the one before.
 fn fields_number(names: u64, least: u64, top: u64, e: Entry) -> u64
     requires { ⌜ top < 2 ^ 47 ⌝ }
@@ -69,7 +77,7 @@ fn fields_number(names: u64, least: u64, top: u64, e: Entry) -> u64
     if top < e.frame {
         return 15;
     }
-    if 65536 * e.frame + (e.id as u64) < least {
+    if key_of(e) < least {
         return 15;
     }
     0
@@ -129,7 +137,7 @@ pub fn walk_entries(image: &[u8], l: Layout, names: u64) -> Walk
                 end,
             };
         }
-        least = 65536 * e.frame + (e.id as u64) + 1;
+        least = key_of(e) + 1;
         top = e.frame + 1;
         end = greater(end, e.location + size);
         at += 32;
