@@ -1,4 +1,5 @@
 // The index block: its entries, their tests, and one walk over them.
+use crate::refusal::refuse;
 use crate::stretch::greater;
 use crate::stretch::lesser;
 use crate::stretch::share;
@@ -14,7 +15,7 @@ ghost use lib.ListN.{length};
 ghost use Rattle.gsd_format.specs.Types.{sizeOf, chunkSize};
 ghost use Rattle.gsd_format.specs.Header.{greatestLength};
 ghost use Rattle.gsd_format.specs.Entries.{entryAt, entriesAt, key};
-ghost use Rattle.gsd_format.specs.Opening.{entryTest};
+ghost use Rattle.gsd_format.specs.Opening.{follows, entryTest};
 ghost use Rattle.gsd_format.proofs.Verdict.{Blocks};
 ghost use Rattle.gsd_read.specs.Index.{Capped, fieldsTest, roomTest, Walks};
 
@@ -57,6 +58,17 @@ fn key_of(e: Entry) -> u64
     65536 * e.frame + (e.id as u64)
 }
 
+// Does the entry follow one whose key is below least and whose frame is top - 1?
+fn follows_last(least: u64, top: u64, e: Entry) -> bool
+    requires { ⌜ top < 2 ^ 47 ⌝ }
+    ensures { λ r. ⌜ r ≡ follows least top e ⌝ }
+{
+    if top < e.frame {
+        return false;
+    }
+    least <= key_of(e)
+}
+
 // 12 to 15: the entry by itself and behind the one before.
 fn fields_number(names: u64, least: u64, top: u64, e: Entry) -> u64
     requires { ⌜ top < 2 ^ 47 ⌝ }
@@ -74,13 +86,7 @@ fn fields_number(names: u64, least: u64, top: u64, e: Entry) -> u64
     if names <= e.id as u64 {
         return 14;
     }
-    if top < e.frame {
-        return 15;
-    }
-    if key_of(e) < least {
-        return 15;
-    }
-    0
+    refuse(!follows_last(least, top, e), 15)
 }
 
 // 16 and 17: n bytes from place a lie in the slice and outside both blocks.

@@ -1,9 +1,10 @@
 -- The three tests in their order; a block that passes its own ends within the slice, so no sum wraps.
 use Prim.Native.Nat.{_*_}
-use mathlib.Core.Path.{sym, _∙_}
+use mathlib.Core.Path.{sym, _∙_, ap}
 use native.Mathlib.Omega.{arith}
+use Rattle.gsd_format.specs.Refusals.{_⇒_}
 use Rattle.gsd_format.specs.Opening.{blocksTest}
-use Rattle.gsd_format.proofs.Refusals.{decides, goes-on, met, passed}
+use Rattle.gsd_format.proofs.Refusals.{decides, goes-on}
 use Rattle.gsd_read.proofs.Blocks.{inside}
 use borrow.Author.Needs.{needs}
 use Rattle.gsd_read.proofs.header.blocks_number.Statement.{statement}
@@ -48,6 +49,9 @@ share-requires c κs =
       inside (l .len) (l .namelist) (64 * l .segments) (sym (two .before .outside2 .ensures) ∙ two .if2 .left),
     )
 
+refuse-requires : tie.Need-refuse-requires
+refuse-requires c κs = search needs
+
 returns-3 : tie.Need-returns-3
 unfolding blocksTest
 returns-3 c =
@@ -55,16 +59,7 @@ returns-3 c =
     let one = two .before .before in
     let index = sym (one .before .outside .ensures) ∙ one .if1 .left in
     let namelist = sym (two .before .outside2 .ensures) ∙ two .if2 .left in
-    sym (goes-on _ 6 _ index ∙ goes-on _ 7 _ namelist ∙ met _ 8 (sym (c .before .share .ensures) ∙ c .if3 .taken))
-
-returns-4 : tie.Need-returns-4
-unfolding blocksTest
-returns-4 c =
-    let two = c .before .before .before .before in
-    let one = two .before .before in
-    let index = sym (one .before .outside .ensures) ∙ one .if1 .left in
-    let namelist = sym (two .before .outside2 .ensures) ∙ two .if2 .left in
-    sym (goes-on _ 6 _ index ∙ goes-on _ 7 _ namelist ∙ passed _ 8 (sym (c .before .share .ensures) ∙ c .if3 .left))
+    sym (goes-on _ 6 _ index ∙ goes-on _ 7 _ namelist ∙ ap (λ t. t ⇒ 8) (sym (c .before .share .ensures)) ∙ sym (c .refuse .ensures))
 
 pub blocks-number-spec : {M : Type 1} → statement M
 blocks-number-spec =
@@ -77,5 +72,5 @@ blocks-number-spec =
     mul-share
     mul-share-2
     share-requires
-    returns-3
-    returns-4)
+    refuse-requires
+    returns-3)

@@ -2,11 +2,10 @@
 use mathlib.Core.Path.{sym, _∙_, ap}
 use mathlib.Core.Bool.{not}
 use native.Mathlib.Omega.{arith}
-use lib.Dec.{leb}
 use borrow.Author.Tests.{lt-ltb, le-ltb, lt-leb, le-leb}
 use Rattle.gsd_format.specs.Types.{sizeOf}
-use Rattle.gsd_format.specs.Entries.{key}
-use Rattle.gsd_format.proofs.Refusals.{decides, goes-on, met, passed, left-holds, right-decides, neither-of, left-fails, right-fails, both-of}
+use Rattle.gsd_format.specs.Refusals.{_⇒_}
+use Rattle.gsd_format.proofs.Refusals.{decides, goes-on, left-holds, right-decides, neither-of}
 use Rattle.gsd_read.specs.Index.{fieldsTest}
 use borrow.Author.Needs.{needs}
 use Rattle.gsd_read.proofs.index.fields_number.Statement.{statement}
@@ -45,6 +44,12 @@ returns-4 c =
     let known = ap not (lt-ltb 0 (sizeOf (e .kind)) (omega (arith, three .before .size-of .ensures .0))) in
     sym (goes-on _ 12 _ place ∙ goes-on _ 13 _ known ∙ decides _ 13 _ (le-leb _ _ (c .if4 .taken)))
 
+follows-last-requires : tie.Need-follows-last-requires
+follows-last-requires c κs = search needs
+
+refuse-requires : tie.Need-refuse-requires
+refuse-requires c κs = search needs
+
 returns-5 : tie.Need-returns-5
 unfolding fieldsTest
 returns-5 c =
@@ -55,37 +60,8 @@ returns-5 c =
     let place = neither-of _ _ (le-ltb _ _ (two .before .before .if1 .left)) (lt-leb _ _ (two .if2 .left)) in
     let known = ap not (lt-ltb 0 (sizeOf (e .kind)) (omega (arith, three .before .size-of .ensures .0))) in
     let named = lt-leb _ _ (four .if4 .left) in
-    let skips = right-fails (leb (two .before .before .before .before .args .least) (key e)) _ (lt-leb _ _ (c .if5 .taken)) in
-    sym (goes-on _ 12 _ place ∙ goes-on _ 13 _ known ∙ goes-on _ 14 _ named ∙ met _ 15 (ap not skips))
-
-key-of-requires : tie.Need-key-of-requires
-key-of-requires c κs = search needs
-
-returns-6 : tie.Need-returns-6
-unfolding fieldsTest
-returns-6 c =
-    let four = c .before .before .before .before in
-    let three = four .before .before in
-    let two = three .before .before in
-    let e = two .before .before .before .before .args .e in
-    let place = neither-of _ _ (le-ltb _ _ (two .before .before .if1 .left)) (lt-leb _ _ (two .if2 .left)) in
-    let known = ap not (lt-ltb 0 (sizeOf (e .kind)) (omega (arith, three .before .size-of .ensures .0))) in
-    let named = lt-leb _ _ (four .if4 .left) in
-    let falls = left-fails _ _ (lt-leb (two .before .before .before .before .args .least) (key e) (omega (arith, c .before .key-of .ensures .0))) in
-    sym (goes-on _ 12 _ place ∙ goes-on _ 13 _ known ∙ goes-on _ 14 _ named ∙ met _ 15 (ap not falls))
-
-returns-7 : tie.Need-returns-7
-unfolding fieldsTest
-returns-7 c =
-    let four = c .before .before .before .before in
-    let three = four .before .before in
-    let two = three .before .before in
-    let e = two .before .before .before .before .args .e in
-    let place = neither-of _ _ (le-ltb _ _ (two .before .before .if1 .left)) (lt-leb _ _ (two .if2 .left)) in
-    let known = ap not (lt-ltb 0 (sizeOf (e .kind)) (omega (arith, three .before .size-of .ensures .0))) in
-    let named = lt-leb _ _ (four .if4 .left) in
-    let follows = both-of _ _ (le-leb (two .before .before .before .before .args .least) (key e) (omega (arith, c .before .key-of .ensures .0))) (le-leb _ _ (c .before .before .if5 .left)) in
-    sym (goes-on _ 12 _ place ∙ goes-on _ 13 _ known ∙ goes-on _ 14 _ named ∙ passed _ 15 (ap not follows))
+    let order = ap (λ t. not t ⇒ 15) (sym (c .before .follows-last .ensures)) in
+    sym (goes-on _ 12 _ place ∙ goes-on _ 13 _ known ∙ goes-on _ 14 _ named ∙ order ∙ sym (c .refuse .ensures))
 
 pub fields-number-spec : {M : Type 1} → statement M
 fields-number-spec =
@@ -97,7 +73,6 @@ fields-number-spec =
     returns-3
     cast-if4
     returns-4
-    returns-5
-    key-of-requires
-    returns-6
-    returns-7)
+    follows-last-requires
+    refuse-requires
+    returns-5)

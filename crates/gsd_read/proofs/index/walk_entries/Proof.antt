@@ -38,8 +38,9 @@ returns c =
     let loop = turn .before .before in
     let slots = loop .before .before .args .l .slots in
     let i = loop .loop .i in
-    let rest = rest-more _ _ (slots - i) (slots - (i + 1)) (turn .entry-at .result) (omega arith) (turn .entry-at .ensures) (c .before .before .before .if1 .left) in
-    walk-refuses _ _ _ _ _ _ _ _ (turn .entry-at .result) _ _ (loop .loop .inv .3) rest (c .before .entry-number .ensures) (c .if2 .taken)
+    let e = turn .entry-at .result in
+    let rest = rest-more _ _ (slots - i) (slots - (i + 1)) e (omega arith) (turn .entry-at .ensures) (c .before .before .before .if1 .left) in
+    walk-refuses _ _ _ _ _ _ _ _ e _ _ (loop .loop .inv .3) rest (c .before .entry-number .ensures) (c .if2 .taken)
 
 key-of-requires : tie.Need-key-of-requires Inv-loop μ-loop
 key-of-requires c κs =
@@ -58,9 +59,10 @@ add-top c =
 
 add-greater : tie.Need-add-greater Inv-loop μ-loop
 add-greater c =
-    let turn = c .before .before .before .before .before .before .before .before in
-    let good = entry-zero _ _ _ _ (turn .entry-at .result) .0 (sym (c .before .before .before .before .entry-number .ensures) ∙ c .before .before .before .if2 .left) in
-    omega (arith, good .0 .high, c .before .before .before .before .before .chunk-bytes .ensures .fits)
+    let passed = c .before .before .before in
+    let turn = passed .before .before .before .before .before in
+    let good = entry-zero _ _ _ _ (turn .entry-at .result) .0 (sym (passed .before .entry-number .ensures) ∙ passed .if2 .left) in
+    omega (arith, good .0 .high, passed .before .before .chunk-bytes .ensures .fits)
 
 greater-requires : tie.Need-greater-requires Inv-loop μ-loop
 greater-requires c κs = search needs
