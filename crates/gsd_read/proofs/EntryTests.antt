@@ -82,11 +82,12 @@ fields-place names least top e h = leb-false (2 ^ 63) (e .location) (neither (lt
 
 -- The walk's two ways out
 
-pub walk-ends : (l : Layout) (names : ℕ) (all : List Entry) (least top end many : ℕ) (rest : List Entry) → Walked l names all least top end many rest →
-    rest ≡ [] → Walks l names all (record { number = 0; entries = many; frames = top; end = end })
-walk-ends l names all least top end many rest w z =
+pub walk-ends : (l : Layout) (names : ℕ) (all : List Entry) (least top end many : ℕ) (rest : List Entry) (number : ℕ) →
+    Walked l names all least top end many rest → rest ≡ [] → number ≡ 0 →
+    Walks l names all (record { number = number; entries = many; frames = top; end = end })
+walk-ends l names all least top end many rest number w z p =
     let a = walked-all l names all least top end many rest w z in
-    record { number = sym (a .0); entries = λ _. sym (a .1); frames = λ _. sym (a .2); end = λ _. sym (a .3) }
+    record { number = p ∙ sym (a .0); entries = λ _. sym (a .1); frames = λ _. sym (a .2); end = λ _. sym (a .3) }
 
 pub walk-refuses : (l : Layout) (names : ℕ) (all : List Entry) (least top end many : ℕ) (rest : List Entry) (e : Entry) (es : List Entry) (number : ℕ) →
     Walked l names all least top end many rest → rest ≡ e ∷ es → number ≡ entryTest l names least top e → (number ≡ 0 → ⊥) →

@@ -105,6 +105,7 @@ fn room_number(l: Layout, a: u64, n: u64) -> u64
     }
     0
 }
+
 // 12 to 17 for one entry, whose chunk has size bytes.
 fn entry_number(l: Layout, names: u64, least: u64, top: u64, e: Entry, size: u64) -> u64
     requires { ⌜ Blocks l × (l .len ≤ greatestLength) × (top < 2 ^ 47) × Capped (chunkSize e) size ⌝ }
@@ -128,20 +129,16 @@ pub fn walk_entries(image: &[u8], l: Layout, names: u64) -> Walk
     let mut least = 0;
     let mut top = 0;
     let mut end = 0;
+    let mut number = 0;
     while i < slots {
         let e = entry_at(image, at);
         if e.location == 0 {
             break;
         }
         let size = chunk_bytes(e.n, e.m, e.kind);
-        let number = entry_number(l, names, least, top, e, size);
+        number = entry_number(l, names, least, top, e, size);
         if number != 0 {
-            return Walk {
-                number,
-                entries: i,
-                frames: top,
-                end,
-            };
+            break;
         }
         least = key_of(e) + 1;
         top = e.frame + 1;
@@ -150,7 +147,7 @@ pub fn walk_entries(image: &[u8], l: Layout, names: u64) -> Walk
         i += 1;
     }
     Walk {
-        number: 0,
+        number,
         entries: i,
         frames: top,
         end,

@@ -13,15 +13,15 @@ use Rattle.gsd_read.proofs.index.walk_entries.Statement.{statement}
 use Rattle.gsd_read.proofs.index.walk_entries.Tie as tie
 
 abbrev Inv-loop : tie.InvT-loop
-Inv-loop image l names slots at₀ i₀ least₀ top₀ end₀ at i least top end =
-    (i ≤ slots) × (at ≡ l .index + 32 * i) × (top ≤ i)
+Inv-loop image l names slots at₀ i₀ least₀ top₀ end₀ number₀ at i least top end number =
+    (i ≤ slots) × (at ≡ l .index + 32 * i) × (top ≤ i) × (number ≡ 0)
     × Walked l names (entriesAt image (l .index) slots) least top end i (entriesAt image at (slots - i))
 
 abbrev μ-loop : tie.MeasureT-loop
-μ-loop image l names slots at₀ i₀ least₀ top₀ end₀ at i least top end = slots - i
+μ-loop image l names slots at₀ i₀ least₀ top₀ end₀ number₀ at i least top end number = slots - i
 
 loop-holds : tie.Need-loop-holds Inv-loop μ-loop
-loop-holds c = (omega arith, omega arith, omega arith, rw sub-zero (walked-none _ _ _))
+loop-holds c = (omega arith, omega arith, omega arith, omega arith, rw sub-zero (walked-none _ _ _))
 
 entry-at-requires : tie.Need-entry-at-requires Inv-loop μ-loop
 entry-at-requires c κs = search needs
@@ -31,16 +31,6 @@ chunk-bytes-requires c κs = search needs
 
 entry-number-requires : tie.Need-entry-number-requires Inv-loop μ-loop
 entry-number-requires c κs = search needs
-
-returns : tie.Need-returns Inv-loop μ-loop
-returns c =
-    let turn = c .before .before .before .before .before in
-    let loop = turn .before .before in
-    let slots = loop .before .before .args .l .slots in
-    let i = loop .loop .i in
-    let e = turn .entry-at .result in
-    let rest = rest-more _ _ (slots - i) (slots - (i + 1)) e (omega arith) (turn .entry-at .ensures) (c .before .before .before .if1 .left) in
-    walk-refuses _ _ _ _ _ _ _ _ e _ _ (loop .loop .inv .3) rest (c .before .entry-number .ensures) (c .if2 .taken)
 
 key-of-requires : tie.Need-key-of-requires Inv-loop μ-loop
 key-of-requires c κs =
@@ -96,19 +86,32 @@ loop-again c =
       omega arith,
       omega (arith, loop .loop .inv .1),
       omega (arith, good .2, loop .loop .inv .2),
-      rw (end, c .before .before .before .key-of .ensures .0) (walked-more _ _ _ _ _ _ _ _ e _ (loop .loop .inv .3) rest zero),
+      passed .if2 .left,
+      rw (end, c .before .before .before .key-of .ensures .0) (walked-more _ _ _ _ _ _ _ _ e _ (loop .loop .inv .4) rest zero),
     )
+
+returns : tie.Need-returns Inv-loop μ-loop
+returns c =
+    let loop = c .before in
+    let none : loop .before .before .args .l .slots - loop .loop .i ≡ 0 = omega arith in
+    walk-ends _ _ _ _ _ _ _ _ _ (loop .loop .inv .4) (ap (entriesAt _ _) none ∙ entries-none _ _) (loop .loop .inv .3)
 
 returns-2 : tie.Need-returns-2 Inv-loop μ-loop
 returns-2 c =
-    let loop = c .before in
-    let none : loop .before .before .args .l .slots - loop .loop .i ≡ 0 = omega arith in
-    walk-ends _ _ _ _ _ _ _ _ (loop .loop .inv .3) (ap (entriesAt _ _) none ∙ entries-none _ _)
+    let turn = c .before .before in
+    let loop = turn .before .before in
+    let end = rest-end _ _ _ (turn .entry-at .result) (turn .entry-at .ensures) (c .if1 .taken) in
+    walk-ends _ _ _ _ _ _ _ _ _ (loop .loop .inv .4) end (loop .loop .inv .3)
 
 returns-3 : tie.Need-returns-3 Inv-loop μ-loop
 returns-3 c =
-    let turn = c .before .before in
-    walk-ends _ _ _ _ _ _ _ _ (turn .before .before .loop .inv .3) (rest-end _ _ _ (turn .entry-at .result) (turn .entry-at .ensures) (c .if1 .taken))
+    let turn = c .before .before .before .before .before in
+    let loop = turn .before .before in
+    let slots = loop .before .before .args .l .slots in
+    let i = loop .loop .i in
+    let e = turn .entry-at .result in
+    let rest = rest-more _ _ (slots - i) (slots - (i + 1)) e (omega arith) (turn .entry-at .ensures) (c .before .before .before .if1 .left) in
+    walk-refuses _ _ _ _ _ _ _ _ e _ _ (loop .loop .inv .4) rest (c .before .entry-number .ensures) (c .if2 .taken)
 
 pub walk-entries-spec : {M : Type 1} → statement M
 walk-entries-spec =
@@ -120,7 +123,6 @@ walk-entries-spec =
     entry-at-requires
     chunk-bytes-requires
     entry-number-requires
-    returns
     key-of-requires
     add-least
     add-top
@@ -130,5 +132,6 @@ walk-entries-spec =
     add-i
     loop-less
     loop-again
+    returns
     returns-2
     returns-3)
