@@ -8,7 +8,7 @@ use native.Mathlib.Numerals.{add-one}
 use native.Mathlib.Decide.{decLt}
 use native.Mathlib.Omega.{arith}
 use lib.ListN.{length, getD, set, length-map, length-set}
-use lib.Seq.{getD-set-same, getD-set-other}
+use lib.Seq.{set-out, getD-set-same, getD-set-other}
 use lib.Dec.{ltb, eqb}
 use borrow.Author.Count.{below-more}
 use borrow.Author.Tests.{lt-ltb, le-ltb}
@@ -18,6 +18,7 @@ use Rattle.gsd_format.specs.Bytes.{same}
 use Rattle.gsd_format.specs.Names.{partsAt, bytesOf, flat, indexOf}
 use Rattle.gsd_format.specs.Refusals.{_⇒_, _▹_}
 use Rattle.gsd_format.specs.Opening.{mostNames, unclosed, twins, namesTest}
+use Rattle.gsd_format.specs.Lookup.{nowhere}
 use Rattle.gsd_format.proofs.Bytes.{eq-same, same-eq, part-length}
 use Rattle.gsd_format.proofs.Ids.{Has, Lacks, index-here, index-on, index-none}
 use Rattle.gsd_format.proofs.Names.{namesAt, flat-none, flat-size, parts-none, parts-end, parts-close, parts-walk, parts-open}
@@ -55,10 +56,30 @@ module _ (img : List ℕ) (start stop : ℕ) where
             ∙ parts-walk (at - start) img start start (suc m) (λ i l. z .before (start + i) (omega arith) (omega arith))
             ∙ ap (λ i. partsAt img start i (suc m)) (let e : start + (at - start) ≡ at = omega (arith, z .above) in e)
             ∙ parts-close img start at m (λ e. a (sym e)) (z .here (omega (arith, z .within)))
-            ∙ ap (λ i. record { start = start; size = i } ∷ partsAt img (at + 1) (at + 1) m) (let e : at - start ≡ at + 1 - 1 - start = omega (arith, z .above) in e);
+            ∙ ap (λ i. record { start = start; size = i } ∷ partsAt img (at + 1) (at + 1) m)
+            (let e : at - start ≡ at + 1 - 1 - start = omega (arith, z .above) in e);
       }
 
--- The list found name by name
+-- Parts by their starts
+
+from-here : (starts : List ℕ) (i count : ℕ) → i < count → partsFrom starts i (count - i) ≡ partAt starts i ∷ partsFrom starts (i + 1) (count - (i + 1))
+unfolding partsFrom
+from-here starts i count h = ap (partsFrom starts i) (let e : count - i ≡ suc (count - (i + 1)) = omega arith in e)
+
+from-none : (starts : List ℕ) (i count : ℕ) → count ≤ i → partsFrom starts i (count - i) ≡ []
+unfolding partsFrom
+from-none starts i count h = ap (partsFrom starts i) (let e : count - i ≡ 0 = omega arith in e)
+
+from-at : (n : ℕ) (starts : List ℕ) (i k : ℕ) → k < n → getD (partsFrom starts i n) k nowhere ≡ partAt starts (i + k)
+unfolding partsFrom
+from-at zero starts i k h = absurd (omega arith)
+from-at (suc n) starts i zero h = ap (partAt starts) (sym (add-zero i))
+from-at (suc n) starts i (suc k) h = from-at n starts (i + 1) k (omega arith) ∙ ap (partAt starts) (let e : i + 1 + k ≡ i + suc k = omega arith in e)
+
+from-length : (n : ℕ) (starts : List ℕ) (i : ℕ) → length (partsFrom starts i n) ≡ n
+unfolding partsFrom
+from-length zero starts i = refl
+from-length (suc n) starts i = ap suc (from-length n starts (i + 1))
 
 from-snoc : (n : ℕ) (starts : List ℕ) (i : ℕ) → partsFrom starts i (suc n) ≡ partsFrom starts i n ++ partAt starts (i + n) ∷ []
 unfolding partsFrom
@@ -75,6 +96,8 @@ from-same (suc n) s t i h =
     let b : getD s (i + 1) 0 ≡ getD t (i + 1) 0 = h (i + 1) (omega arith) in
     let r : partsFrom s (i + 1) n ≡ partsFrom t (i + 1) n = from-same n s t (i + 1) (λ k l. h k (omega arith)) in
     λ j. record { start = a j; size = b j - 1 - a j } ∷ r j
+
+-- The list found name by name
 
 -- one place more is kept
 module _ (starts : List ℕ) (count next : ℕ) (room : count + 1 < length starts) where
@@ -99,7 +122,10 @@ module _ (starts : List ℕ) (count next : ℕ) (room : count + 1 < length start
   spans-put : (len : ℕ) → Spans starts count len → count < mostNames → getD starts count 0 < next → next ≤ len → Spans put (count + 1) len
   spans-put len h few some within =
       below-more (λ i. Span put i len) count
-      (λ i l. record { kept = h i l .kept; some = omega (arith, old i (omega arith), old (i + 1) (omega arith), h i l .some); within = omega (arith, old (i + 1) (omega arith), h i l .within) })
+      (λ i l.
+      let a : getD put i 0 ≡ getD starts i 0 = old i (omega arith) in
+      let b : getD put (i + 1) 0 ≡ getD starts (i + 1) 0 = old (i + 1) (omega arith) in
+      record { kept = h i l .kept; some = omega (arith, h i l .some); within = omega (arith, h i l .within) })
       (record { kept = few; some = omega (arith, old count (omega arith), new); within = omega (arith, new) })
 
 -- count names are found, up to start, and the rest of the list goes on from there
@@ -129,8 +155,8 @@ module _ (img : List ℕ) (at n : ℕ) where
         spans = λ _ i l. absurd (omega arith);
       }
 
-  pub found-more : at + n ≤ length img → (starts : List ℕ) (count start next : ℕ) → Found img at n starts count start → start < next → Past img start (at + n) next →
-      Found img at n (set starts (count + 1) next) (count + 1) next
+  pub found-more : at + n ≤ length img → (starts : List ℕ) (count start next : ℕ) → Found img at n starts count start → start < next →
+      Past img start (at + n) next → Found img at n (set starts (count + 1) next) (count + 1) next
   unfolding put
   found-more room starts count start next f l p =
       let rest : List Part = partsAt img next next (at + n - next) in
@@ -153,11 +179,17 @@ module _ (img : List ℕ) (at n : ℕ) where
             ∙ append-assoc (partsFrom starts 0 count) (here ∷ []) rest ∙ ap (λ ps. partsFrom starts 0 count ++ ps) (sym (p .one l)) ∙ f .parts (omega arith);
         last = λ h. new starts count next (omega (arith, f .long));
         spans = λ h.
-            spans-put starts count next (omega (arith, f .long)) (length img) (f .spans (omega arith)) (omega arith) (omega (arith, f .last (omega arith))) (omega (arith, p .within));
+            spans-put starts count next (omega (arith, f .long)) (length img) (f .spans (omega arith))
+            (omega arith) (omega (arith, f .last (omega arith))) (omega (arith, p .within));
       }
 
-  pub found-all : (starts : List ℕ) (count start next : ℕ) → Found img at n starts count start → next ≤ start → Past img start (at + n) next →
-      NamesFound img at n (record { count = count; end = start; starts = starts })
+  -- a list that is too long is counted on
+  pub found-full : (starts : List ℕ) (count start : ℕ) {next : ℕ} → Found img at n starts count start → 1025 ≤ count + 1 →
+      Found img at n (set starts (count + 1) next) (count + 1) next → Found img at n starts (count + 1) next
+  found-full starts count start {next} f h g = rw (set-out starts (count + 1) next (omega (arith, f .long))) at g
+
+  pub found-all : (starts : List ℕ) (count start next : ℕ) → Found img at n starts count start → next ≤ start →
+      Past img start (at + n) next → NamesFound img at n (record { count = count; end = start; starts = starts })
   found-all starts count start next f l p =
       let e : partsAt img start start (at + n - start) ≡ [] = p .none (omega (arith, p .above)) in
       record {
@@ -167,20 +199,7 @@ module _ (img : List ℕ) (at n : ℕ) where
         spans = f .spans;
       }
 
--- The names from the i-th on
-
-pub from-here : (starts : List ℕ) (i count : ℕ) → i < count → partsFrom starts i (count - i) ≡ partAt starts i ∷ partsFrom starts (i + 1) (count - (i + 1))
-unfolding partsFrom
-from-here starts i count h = ap (partsFrom starts i) (let e : count - i ≡ suc (count - (i + 1)) = omega arith in e)
-
-pub from-none : (starts : List ℕ) (i count : ℕ) → count ≤ i → partsFrom starts i (count - i) ≡ []
-unfolding partsFrom
-from-none starts i count h = ap (partsFrom starts i) (let e : count - i ≡ 0 = omega arith in e)
-
-from-length : (n : ℕ) (starts : List ℕ) (i : ℕ) → length (partsFrom starts i n) ≡ n
-unfolding partsFrom
-from-length zero starts i = refl
-from-length (suc n) starts i = ap suc (from-length n starts (i + 1))
+-- A name that comes again behind the first, or not
 
 twins-has : (n : List ℕ) (ns : List (List ℕ)) → Has n ns → twins (n ∷ ns) ≡ true
 unfolding twins
@@ -189,6 +208,8 @@ twins-has n ns h = rw (lt-ltb _ _ h)
 twins-lacks : (n : List ℕ) (ns : List (List ℕ)) → Lacks n ns → twins (n ∷ ns) ≡ twins ns
 unfolding twins
 twins-lacks n ns h = rw (le-ltb _ _ h)
+
+-- The names from the i-th on
 
 module _ (img starts : List ℕ) (count : ℕ) where
   abbrev pub names : ℕ → List (List ℕ)
@@ -217,7 +238,8 @@ module _ (img starts : List ℕ) (count : ℕ) where
       ap (indexOf b) (names-here i h) ∙ index-on b _ (names (i + 1)) (λ g. true≢false (sym (eq-same b n (g ∙ sym q)) ∙ f)) in
       omega arith
 
-  pub passed-here : (b n : List ℕ) (a i : ℕ) → i < count → Passed b a i → n ≡ bytesOf img (partAt starts i) → same b n ≡ true → indexOf b (names a) + a ≡ i
+  pub passed-here : (b n : List ℕ) (a i : ℕ) → i < count → Passed b a i → n ≡ bytesOf img (partAt starts i) → same b n ≡ true →
+      indexOf b (names a) + a ≡ i
   passed-here b n a i h p q f =
       let e : indexOf b (names i) ≡ 0 = ap (indexOf b) (names-here i h) ∙ index-here b _ (names (i + 1)) (same-eq b n f ∙ q) in
       omega arith
@@ -230,16 +252,32 @@ module _ (img starts : List ℕ) (count : ℕ) where
 
   -- The twins among the names from the i-th on: a name that comes again, or those of the names behind it
 
-  pub twins-here : (b : List ℕ) (i j : ℕ) → i < count → b ≡ bytesOf img (partAt starts i) → indexOf b (names (i + 1)) + (i + 1) ≡ j → j < count → twins (names i) ≡ true
-  twins-here b i j h q e l = ap twins (names-here i h ∙ ap (λ n. n ∷ names (i + 1)) (sym q)) ∙ twins-has b (names (i + 1)) (omega (arith, names-long (i + 1)))
+  names-from : (b : List ℕ) (i : ℕ) → i < count → b ≡ bytesOf img (partAt starts i) → names i ≡ b ∷ names (i + 1)
+  names-from b i h q = names-here i h ∙ ap (λ n. n ∷ names (i + 1)) (sym q)
+
+  pub twins-here : (b : List ℕ) (i j : ℕ) → i < count → b ≡ bytesOf img (partAt starts i) → indexOf b (names (i + 1)) + (i + 1) ≡ j → j < count →
+      twins (names i) ≡ true
+  twins-here b i j h q e l = ap twins (names-from b i h q) ∙ twins-has b (names (i + 1)) (omega (arith, names-long (i + 1)))
 
   pub twins-behind : (b : List ℕ) (i j : ℕ) → i < count → b ≡ bytesOf img (partAt starts i) → indexOf b (names (i + 1)) + (i + 1) ≡ j → count ≤ j →
       twins (names i) ≡ twins (names (i + 1))
-  twins-behind b i j h q e l = ap twins (names-here i h ∙ ap (λ n. n ∷ names (i + 1)) (sym q)) ∙ twins-lacks b (names (i + 1)) (omega (arith, names-long (i + 1)))
+  twins-behind b i j h q e l = ap twins (names-from b i h q) ∙ twins-lacks b (names (i + 1)) (omega (arith, names-long (i + 1)))
 
   pub twins-none : (i : ℕ) → count ≤ i → twins (names i) ≡ false
   unfolding twins
   twins-none i h = ap twins (names-none i h)
+
+-- What is found, by name and by place
+
+module _ (img : List ℕ) (at n : ℕ) (list : NameList) (found : NamesFound img at n list) where
+  pub found-count : length (namesAt img at n) ≡ list .count
+  found-count = length-map (partsAt img at at n) (bytesOf img) ∙ sym (found .count)
+
+  pub found-names : list .count ≤ mostNames → namesIn img (list .starts) (list .count) ≡ namesAt img at n
+  found-names h = ap (map (bytesOf img)) (found .parts h)
+
+  pub found-part : list .count ≤ mostNames → (i : ℕ) → i < list .count → getD (partsAt img at at n) i nowhere ≡ partAt (list .starts) i
+  found-part h i l = ap (λ ps. getD ps i nowhere) (sym (found .parts h)) ∙ from-at (list .count) (list .starts) 0 i l ∙ ap (partAt (list .starts)) (zero-add i)
 
 -- The numbers 9 to 11 by what is found
 
@@ -247,20 +285,21 @@ module _ (img : List ℕ) (l : Layout) (list : NameList) (found : NamesFound img
   abbrev pub block : List (List ℕ)
   block = namesAt img (l .namelist) (64 * l .segments)
 
-  abbrev pub more : Bool
-  more = ltb (list .end) (l .namelist + 64 * l .segments) && not (eqb (getD img (list .end) 0) 0)
+  abbrev stop : ℕ
+  stop = l .namelist + 64 * l .segments
 
-  long : length block ≡ list .count
-  long = length-map (partsAt img (l .namelist) (l .namelist) (64 * l .segments)) (bytesOf img) ∙ sym (found .count)
+  -- the block goes on behind its names
+  abbrev pub more : Bool
+  more = ltb (list .end) stop && not (eqb (getD img (list .end) 0) 0)
 
   still : more ≡ unclosed img l block
   still =
-      let t : ltb (list .end) (l .namelist + 64 * l .segments) ≡ ltb (length (flat block)) (64 * l .segments) = go (decLt (length (flat block)) (64 * l .segments)) in
+      let t : ltb (list .end) stop ≡ ltb (length (flat block)) (64 * l .segments) = go (decLt (list .end) stop) in
       λ i. t i && not (eqb (getD img (found .end i) 0) 0)
     where
-      go : Dec (length (flat block) < 64 * l .segments) → ltb (list .end) (l .namelist + 64 * l .segments) ≡ ltb (length (flat block)) (64 * l .segments)
-      go (yes h) = lt-ltb (list .end) (l .namelist + 64 * l .segments) (omega (arith, found .end)) ∙ sym (lt-ltb _ _ h)
-      go (no h) = le-ltb (list .end) (l .namelist + 64 * l .segments) (omega (arith, found .end)) ∙ sym (le-ltb (length (flat block)) (64 * l .segments) (omega arith))
+      go : Dec (list .end < stop) → ltb (list .end) stop ≡ ltb (length (flat block)) (64 * l .segments)
+      go (yes h) = lt-ltb _ _ h ∙ sym (lt-ltb (length (flat block)) (64 * l .segments) (omega (arith, found .end)))
+      go (no h) = le-ltb (list .end) stop (omega arith) ∙ sym (le-ltb (length (flat block)) (64 * l .segments) (omega (arith, found .end)))
 
   pub number-open : more ≡ true → namesTest img l block ≡ 9
   unfolding namesTest _⇒_ _▹_
@@ -268,8 +307,9 @@ module _ (img : List ℕ) (l : Layout) (list : NameList) (found : NamesFound img
 
   pub number-many : more ≡ false → mostNames < list .count → namesTest img l block ≡ 10
   unfolding namesTest _⇒_ _▹_
-  number-many e h = rw (sym still ∙ e, lt-ltb mostNames (length block) (omega (arith, long)))
+  number-many e h = rw (sym still ∙ e, lt-ltb mostNames (length block) (omega (arith, found-count _ _ _ _ found)))
 
   pub number-twins : (b : Bool) → more ≡ false → list .count ≤ mostNames → twins (namesIn img (list .starts) (list .count)) ≡ b → namesTest img l block ≡ (b ⇒ 11)
   unfolding namesTest _⇒_ _▹_
-  number-twins b e h t = rw (sym still ∙ e, le-ltb mostNames (length block) (omega (arith, long)), sym (ap (λ ps. twins (map (bytesOf img) ps)) (found .parts h)) ∙ t)
+  number-twins b e h t =
+      rw (sym still ∙ e, le-ltb mostNames (length block) (omega (arith, found-count _ _ _ _ found)), sym (ap twins (found-names _ _ _ _ found h)) ∙ t)

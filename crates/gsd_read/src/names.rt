@@ -13,8 +13,8 @@ ghost use Rattle.gsd_read.specs.NameLists.{partAt, namesIn, Past, Span, 
 use gsd_format::Layout;
 use gsd_format::Part;
 
-// The closed names of a name block: how many, and the place behind the last one's zero. Of up to 1,024 names starts has
-// the place of each, and behind them that end: a name goes up to the byte before the next one's place.
+// The closed names of a name block: their number, and the place behind the last one's zero. Where there are at most
+// 1,024, starts has the place of each, then that end: a name goes up to the byte before the next place.
 pub struct NameList {
     pub count: usize,
     pub end: usize,
@@ -36,7 +36,7 @@ fn past_name(image: &[u8], start: usize, stop: usize) -> usize
     zero + 1
 }
 
-// A list of more names is counted to its end: a name that is not closed is refused before too many names are.
+// One pass over the block. A longer list is counted to its end too: 9 comes before 10.
 pub fn name_list(image: &[u8], at: usize, n: usize) -> NameList
     requires { ⌜ (at + n ≤ length (now image)) × (length (now image) ≤ greatestLength) ⌝ }
     ensures { λ r. ⌜ NamesFound (now (image .entry)) at n r ⌝ }
@@ -81,7 +81,7 @@ pub fn name_part(starts: &[u32; 1025], i: usize) -> Part
     }
 }
 
-fn name_bytes<'a>(image: &'a [u8], starts: &'a [u32; 1025], i: usize) -> &'a [u8]
+fn name_bytes<'a, 'b>(image: &'a [u8], starts: &'b [u32; 1025], i: usize) -> &'a [u8]
     requires { ⌜ Span (now starts) i (length (now image)) ⌝ }
     ensures { λ r. ⌜ now r ≡ bytesOf (now (image .entry)) (partAt (now (starts .entry)) i) ⌝ }
 {
@@ -90,22 +90,25 @@ fn name_bytes<'a>(image: &'a [u8], starts: &'a [u32; 1025], i: usize) -> &'a [u8
     &image[start..end]
 }
 
+// Names often have their front in common, so the last byte is looked at first.
 fn same_name(a: &[u8], b: &[u8]) -> bool
     ensures { λ r. ⌜ r ≡ same (now (a .entry)) (now (b .entry)) ⌝ }
 {
-    if a.len() != b.len() {
+    let n = a.len();
+    if n != b.len() {
         return false;
     }
-    gsd_bytes::same_part(a, 0, b, 0, a.len())
+    if n == 0 {
+        return true;
+    }
+    if a[n - 1] != b[n - 1] {
+        return false;
+    }
+    gsd_bytes::same_part(a, 0, b, 0, n)
 }
 
 // The id of a name, or the number of names where it is not listed.
-pub fn find_name<'a>(
-    image: &'a [u8],
-    starts: &'a [u32; 1025],
-    count: usize,
-    name: &'a [u8],
-) -> usize
+pub fn find_name(image: &[u8], starts: &[u32; 1025], count: usize, name: &[u8]) -> usize
     requires { ⌜ Spans (now starts) count (length (now image)) ⌝ }
     ensures { λ r. ⌜ r ≡ indexOf (now (name .entry)) (namesIn (now (image .entry)) (now (starts .entry)) count) ⌝ }
 {
@@ -120,7 +123,7 @@ pub fn find_name<'a>(
 }
 
 // Are two of the names equal?
-pub fn has_twins<'a>(image: &'a [u8], starts: &'a [u32; 1025], count: usize) -> bool
+pub fn has_twins(image: &[u8], starts: &[u32; 1025], count: usize) -> bool
     requires { ⌜ Spans (now starts) count (length (now image)) ⌝ }
     ensures { λ r. ⌜ r ≡ twins (namesIn (now (image .entry)) (now (starts .entry)) count) ⌝ }
 {
@@ -153,13 +156,7 @@ fn goes_on(image: &[u8], end: usize, stop: usize) -> bool
 }
 
 // 9, 10, 11, or 0 for none of them.
-pub fn names_number<'a>(
-    image: &'a [u8],
-    l: Layout,
-    count: usize,
-    end: usize,
-    starts: &'a [u32; 1025],
-) -> u64
+pub fn names_number(image: &[u8], l: Layout, count: usize, end: usize, starts: &[u32; 1025]) -> u64
     requires { ⌜ (l .namelist + 64 * l .segments ≤ length (now image))
         × NamesFound (now image) (l .namelist) (64 * l .segments) (record { count = count; end = end; starts = now starts }) ⌝ }
     ensures { λ r. ⌜ r ≡ namesTest (now (image .entry)) l (namesAt (now (image .entry)) (l .namelist) (64 * l .segments)) ⌝ }

@@ -22,7 +22,11 @@ same-name-requires : tie.Need-same-name-requires Inv-loop μ-loop
 same-name-requires c κs = search needs
 
 returns : tie.Need-returns Inv-loop μ-loop
-returns c = index-all _ _ _ _ _ (passed-here _ _ _ _ _ _ _ (c .before .before .before .loop-test .taken) (c .before .before .before .before .loop .inv .1) (c .before .before .name-bytes .ensures) (sym (c .before .same-name .ensures) ∙ c .if1 .taken))
+returns c =
+    let turn = c .before .before .before in
+    index-all _ _ _ _ _
+    (passed-here _ _ _ _ _ _ _ (turn .loop-test .taken) (turn .before .loop .inv .1) (c .before .before .name-bytes .ensures)
+    (sym (c .before .same-name .ensures) ∙ c .if1 .taken))
 
 add-i : tie.Need-add-i Inv-loop μ-loop
 add-i c = search needs
@@ -31,7 +35,11 @@ loop-less : tie.Need-loop-less Inv-loop μ-loop
 loop-less c = search needs
 
 loop-again : tie.Need-loop-again Inv-loop μ-loop
-loop-again c = (search needs, passed-more _ _ _ _ _ _ _ (c .before .before .before .loop-test .taken) (c .before .before .before .before .loop .inv .1) (c .before .before .name-bytes .ensures) (sym (c .before .same-name .ensures) ∙ c .if1 .left))
+loop-again c =
+    let turn = c .before .before .before in
+    let passed = passed-more _ _ _ _ _ _ _ (turn .loop-test .taken) (turn .before .loop .inv .1) (c .before .before .name-bytes .ensures)
+    (sym (c .before .same-name .ensures) ∙ c .if1 .left) in
+    (search needs, passed)
 
 returns-2 : tie.Need-returns-2 Inv-loop μ-loop
 returns-2 c = index-all _ _ _ _ _ (passed-all _ _ _ _ _ _ (c .loop-test .left) (c .before .loop .inv .1))

@@ -45,7 +45,11 @@ loop-less : tie.Need-loop-less Inv-loop μ-loop Inv-pairs μ-pairs
 loop-less c = search needs
 
 loop-again : tie.Need-loop-again Inv-loop μ-loop Inv-pairs μ-pairs
-loop-again c = (search needs, (search needs, passed-more _ _ _ _ _ _ _ (c .before .before .before .loop-test .taken) (c .before .before .before .before .loop .inv .1 .1) (c .before .before .name-bytes2 .ensures) (sym (c .before .same-name .ensures) ∙ c .if1 .left)))
+loop-again c =
+    let turn = c .before .before .before in
+    let passed = passed-more _ _ _ _ _ _ _ (turn .loop-test .taken) (turn .before .loop .inv .1 .1) (c .before .before .name-bytes2 .ensures)
+    (sym (c .before .same-name .ensures) ∙ c .if1 .left) in
+    (search needs, (search needs, passed))
 
 add-i : tie.Need-add-i Inv-loop μ-loop Inv-pairs μ-pairs
 add-i c = search needs
@@ -54,22 +58,23 @@ pairs-less : tie.Need-pairs-less Inv-loop μ-loop Inv-pairs μ-pairs
 pairs-less c = search needs
 
 pairs-again : tie.Need-pairs-again Inv-loop μ-loop Inv-pairs μ-pairs
-pairs-again c = (
-  search needs,
-  (
-    search needs,
-    c .before .before .before .before .pairs .inv .1 .1 ∙ twins-behind _ _ _ _ _ _ (c .before .before .before .pairs-test .taken) (c .before .before .name-bytes .ensures) (passed-all _ _ _ _ _ _ (c .loop-test .left) (c .before .loop .inv .1 .1)) (c .loop-test .left),
-  ),
-)
+pairs-again c =
+    let turn = c .before .before .before in
+    let all = passed-all _ _ _ _ _ _ (c .loop-test .left) (c .before .loop .inv .1 .1) in
+    let behind = twins-behind _ _ _ _ _ _ (turn .pairs-test .taken) (c .before .before .name-bytes .ensures) all (c .loop-test .left) in
+    (search needs, (search needs, turn .before .pairs .inv .1 .1 ∙ behind))
 
 returns : tie.Need-returns Inv-loop μ-loop Inv-pairs μ-pairs
 returns c = c .before .pairs .inv .1 .0 ∙ sym (ap twins (sym (names-all _ _ _)) ∙ c .before .pairs .inv .1 .1 ∙ twins-none _ _ _ _ (c .pairs-test .left))
 
 returns-2 : tie.Need-returns-2 Inv-loop μ-loop Inv-pairs μ-pairs
 returns-2 c =
-    sym (ap twins (sym (names-all _ _ _)) ∙ c .before .before .before .before .before .before .before .pairs .inv .1 .1
-    ∙ twins-here _ _ _ _ _ _ (c .before .before .before .before .before .before .pairs-test .taken) (c .before .before .before .before .before .name-bytes .ensures)
-    (passed-here _ _ _ _ _ _ _ (c .before .before .before .loop-test .taken) (c .before .before .before .before .loop .inv .1 .1) (c .before .before .name-bytes2 .ensures) (sym (c .before .same-name .ensures) ∙ c .if1 .taken)) (c .before .before .before .loop-test .taken))
+    let turn = c .before .before .before in
+    let here = turn .before .before in
+    let again = passed-here _ _ _ _ _ _ _ (turn .loop-test .taken) (turn .before .loop .inv .1 .1) (c .before .before .name-bytes2 .ensures)
+    (sym (c .before .same-name .ensures) ∙ c .if1 .taken) in
+    sym (ap twins (sym (names-all _ _ _)) ∙ here .before .before .pairs .inv .1 .1
+    ∙ twins-here _ _ _ _ _ _ (here .before .pairs-test .taken) (here .name-bytes .ensures) again (turn .loop-test .taken))
 
 pub has-twins-spec : {M : Type 1} → statement M
 has-twins-spec =

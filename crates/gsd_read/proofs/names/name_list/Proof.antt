@@ -1,12 +1,10 @@
 -- `gsd_read::names::name_list` meets its contract. Invariant: the names found so far are kept, and the rest of the list goes on from `start`.
 use Prim.Native.Nat.{_+_, _-_}
-use mathlib.Core.Path.{refl, sym, _∙_}
+use mathlib.Core.Path.{refl}
 use mathlib.Core.Logic.{⊎-elim}
-use native.Mathlib.Omega.{arith}
-use lib.Seq.{set-out}
 use borrow.Author.Needs.{needs}
 use Rattle.gsd_read.specs.NameLists.{Past}
-use Rattle.gsd_read.proofs.NameLists.{Found, found-none, found-more, found-all}
+use Rattle.gsd_read.proofs.NameLists.{Found, found-none, found-more, found-full, found-all}
 use Rattle.gsd_read.proofs.names.name_list.Statement.{statement}
 use Rattle.gsd_read.proofs.names.name_list.Tie as tie
 
@@ -51,9 +49,9 @@ loop-less c = search needs
 
 loop-again : tie.Need-loop-again Inv-loop μ-loop
 loop-again c =
-    let turn = c .before .before .before in
-    let more = found-more _ _ _ (search needs) _ _ _ _ (turn .loop .inv .0) (c .before .before .loop-test .taken) (turn .loop .inv .1) in
-    (⊎-elim (λ w. rw (w .1) more) (λ w. rw (w .1 ∙ sym (set-out (turn .loop .starts) (turn .loop .count + 1) (turn .loop .next) (omega (arith, turn .loop .inv .0 .long)))) more) (c .before .if1 .came), c .past-name2 .ensures)
+    let turn = c .before .before in
+    let more = found-more _ _ _ (search needs) _ _ _ _ (turn .before .loop .inv .0) (turn .loop-test .taken) (turn .before .loop .inv .1) in
+    (⊎-elim (λ w. rw (w .1) more) (λ w. rw (w .1) (found-full _ _ _ _ _ _ (turn .before .loop .inv .0) (w .0 .left) more)) (c .before .if1 .came), c .past-name2 .ensures)
 
 returns : tie.Need-returns Inv-loop μ-loop
 returns c = found-all _ _ _ _ _ _ _ (c .before .loop .inv .0) (c .loop-test .left) (c .before .loop .inv .1)
