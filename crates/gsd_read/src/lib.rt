@@ -1,5 +1,2 @@
-// Reading an image: what opening, the names, the entries, the lookup, chunks and elements answer.
-mod header;
-mod index;
-mod refusal;
-mod stretch;
+// Reading an image: the header, the name list, the entry list.
+mod names;
