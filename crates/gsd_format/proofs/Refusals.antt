@@ -81,9 +81,9 @@ pub both-of : (a b : Bool) → a ≡ true → b ≡ true → (a && b) ≡ true
 both-of true b h g = g
 both-of false b h g = h
 
-pub left-fails : (a b : Bool) → a ≡ false → (a && b) ≡ false
-left-fails true b h = absurd (true≢false h)
-left-fails false b h = refl
+pub left-decides : (a b : Bool) → b ≡ true → (a && b) ≡ a
+left-decides true b h = h
+left-decides false b h = refl
 
 pub right-fails : (a b : Bool) → b ≡ false → (a && b) ≡ false
 right-fails true b h = h

@@ -55,7 +55,8 @@ walked-more l names all least top end many rest e es w q z = record {
 
 -- the first bad entry decides
 pub walked-bad : (l : Layout) (names : ℕ) (all : List Entry) (least top end many : ℕ) (rest : List Entry) (e : Entry) (es : List Entry) →
-    Walked l names all least top end many rest → rest ≡ e ∷ es → (entryTest l names least top e ≡ 0 → ⊥) → entriesTest l names 0 0 all ≡ entryTest l names least top e
+    Walked l names all least top end many rest → rest ≡ e ∷ es → (entryTest l names least top e ≡ 0 → ⊥) →
+    entriesTest l names 0 0 all ≡ entryTest l names least top e
 walked-bad l names all least top end many rest e es w q n = w .tested ∙ ap (entriesTest l names least top) q ∙ test-more l names least top e es ∙ stays _ _ n
 
 -- the end of the list

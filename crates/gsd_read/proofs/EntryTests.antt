@@ -1,4 +1,4 @@
--- Laws of one entry's tests: the chain in its two parts, a size that is capped, and what an entry that passes has.
+-- Laws of one entry's tests, and the walk's ways out: a size that is capped, the chain in its two parts, the answer at a bad entry and at the end.
 use Prim.Native.Nat.{ℕ, _+_, _*_, _^_, _≤_, _<_, min}
 use mathlib.Core.Path.{_≡_, sym, _∙_, ap}
 use mathlib.Core.List.{List, [], _∷_}
@@ -35,26 +35,29 @@ big a b x y h g z p f = go (ℕ-discrete b 0)
         let r : x * 1 ≤ x * y = mul-le-mul-left x q in
         record { exact = λ l. absurd (omega arith); beyond = λ _. omega arith; fits = f }
 
--- a product of two numbers, each cut just above the longest slice
-pub capped-product : (a b : ℕ) → Capped (a * b) (min a (greatestLength + 1) * min b (greatestLength + 1))
+-- cut just above the longest slice
+abbrev pub cut : ℕ → ℕ
+cut a = min a (greatestLength + 1)
+
+-- a product of two numbers that are cut
+pub capped-product : (a b : ℕ) → Capped (a * b) (cut a * cut b)
 capped-product a b = go (decLt greatestLength a) (decLt greatestLength b)
   where
-    fits : min a (greatestLength + 1) * min b (greatestLength + 1) ≤ 2 ^ 63
-    fits = omega (arith, mul-le-mul {n₁ = min a (greatestLength + 1)} {m₁ = min b (greatestLength + 1)} {n₂ = greatestLength + 1} {m₂ = greatestLength + 1} (omega arith) (omega arith))
+    fits : cut a * cut b ≤ 2 ^ 63
+    fits = omega (arith, mul-le-mul {n₁ = cut a} {m₁ = cut b} {n₂ = greatestLength + 1} {m₂ = greatestLength + 1} (omega arith) (omega arith))
 
-    go : Dec (greatestLength < a) → Dec (greatestLength < b) → Capped (a * b) (min a (greatestLength + 1) * min b (greatestLength + 1))
-    go (yes h) d = big a b (min a (greatestLength + 1)) (min b (greatestLength + 1)) h (omega arith) (omega arith) (omega arith) fits
+    go : Dec (greatestLength < a) → Dec (greatestLength < b) → Capped (a * b) (cut a * cut b)
+    go (yes h) d = big a b (cut a) (cut b) h (omega arith) (omega arith) (omega arith) fits
     go (no h) (yes d) =
-        rw (mul-comm a b, mul-comm (min a (greatestLength + 1)) (min b (greatestLength + 1)))
-        (big b a (min b (greatestLength + 1)) (min a (greatestLength + 1)) d (omega arith) (omega arith) (omega arith)
-        (rw (mul-comm (min b (greatestLength + 1)) (min a (greatestLength + 1))) fits))
+        rw (mul-comm a b, mul-comm (cut a) (cut b))
+        (big b a (cut b) (cut a) d (omega arith) (omega arith) (omega arith) (rw (mul-comm (cut b) (cut a)) fits))
     go (no h) (no d) =
-        let p : min a (greatestLength + 1) ≡ a = omega arith in
-        let q : min b (greatestLength + 1) ≡ b = omega arith in
+        let p : cut a ≡ a = omega arith in
+        let q : cut b ≡ b = omega arith in
         record { exact = λ _ i. p i * q i; beyond = λ w. rw (p, q) w; fits = fits }
 
 -- the same for a chunk's N, M and element size
-pub capped-chunk : (n m size x y : ℕ) → x ≡ min n (greatestLength + 1) → y ≡ min (m * size) (greatestLength + 1) → Capped (n * m * size) (x * y)
+pub capped-chunk : (n m size x y : ℕ) → x ≡ cut n → y ≡ cut (m * size) → Capped (n * m * size) (x * y)
 capped-chunk n m size x y p q = rw (p, q, mul-assoc) (capped-product n (m * size))
 
 -- beyond every slice the very size does not matter
@@ -79,11 +82,12 @@ fields-place names least top e h = leb-false (2 ^ 63) (e .location) (neither (lt
 
 -- The walk's two ways out
 
-pub walk-ends : (l : Layout) (names : ℕ) (all : List Entry) (least top end many : ℕ) (rest : List Entry) → Walked l names all least top end many rest →
-    rest ≡ [] → Walks l names all (record { number = 0; entries = many; frames = top; end = end })
-walk-ends l names all least top end many rest w z =
+pub walk-ends : (l : Layout) (names : ℕ) (all : List Entry) (least top end many : ℕ) (rest : List Entry) (number : ℕ) →
+    Walked l names all least top end many rest → rest ≡ [] → number ≡ 0 →
+    Walks l names all (record { number = number; entries = many; frames = top; end = end })
+walk-ends l names all least top end many rest number w z p =
     let a = walked-all l names all least top end many rest w z in
-    record { number = sym (a .0); entries = λ _. sym (a .1); frames = λ _. sym (a .2); end = λ _. sym (a .3) }
+    record { number = p ∙ sym (a .0); entries = λ _. sym (a .1); frames = λ _. sym (a .2); end = λ _. sym (a .3) }
 
 pub walk-refuses : (l : Layout) (names : ℕ) (all : List Entry) (least top end many : ℕ) (rest : List Entry) (e : Entry) (es : List Entry) (number : ℕ) →
     Walked l names all least top end many rest → rest ≡ e ∷ es → number ≡ entryTest l names least top e → (number ≡ 0 → ⊥) →

@@ -1,4 +1,5 @@
 // The header and the two blocks it names.
+use crate::refusal::refuse;
 use crate::stretch::share;
 use gsd_bytes::has_magic;
 use gsd_bytes::has_zero;
@@ -7,11 +8,23 @@ use gsd_bytes::u64_at;
 use gsd_format::Layout;
 ghost use mathlib.Core.Path.{_≡_};
 ghost use Prim.Native.Nat.{_+_, _*_, _≤_, _<_};
-ghost use mathlib.Core.Bool.{_||_};
+ghost use mathlib.Core.Bool.{not, _||_};
 ghost use lib.ListN.{length};
 ghost use lib.Dec.{ltb};
+ghost use Rattle.gsd_format.specs.Bytes.{zeroIn};
 ghost use Rattle.gsd_format.specs.Header.{headerSize, greatestLength, layoutOf};
 ghost use Rattle.gsd_format.specs.Opening.{headerTest, blocksTest};
+
+// Is application or schema without a zero byte?
+fn text_open(image: &[u8]) -> bool
+    requires { ⌜ 256 ≤ length (now image) ⌝ }
+    ensures { λ r. ⌜ r ≡ (not (zeroIn (now (image .entry)) 48 64) || not (zeroIn (now (image .entry)) 112 64)) ⌝ }
+{
+    if !has_zero(image, 48, 112) {
+        return true;
+    }
+    !has_zero(image, 112, 176)
+}
 
 // 1 to 5: the slice's length, the magic, the version, application and schema.
 pub fn header_number(image: &[u8]) -> u64
@@ -29,13 +42,7 @@ pub fn header_number(image: &[u8]) -> u64
     if u32_at(image, 44) != 0x00020000 {
         return 4;
     }
-    if !has_zero(image, 48, 112) {
-        return 5;
-    }
-    if !has_zero(image, 112, 176) {
-        return 5;
-    }
-    0
+    refuse(text_open(image), 5)
 }
 
 // The header's four numbers, and the slice's length.
@@ -78,8 +85,6 @@ pub fn blocks_number(l: Layout) -> u64
     if outside(l.len, l.namelist, 64, l.segments) {
         return 7;
     }
-    if share(l.index, 32 * l.slots, l.namelist, 64 * l.segments) {
-        return 8;
-    }
-    0
+    let meet = share(l.index, 32 * l.slots, l.namelist, 64 * l.segments);
+    refuse(meet, 8)
 }

@@ -1,4 +1,5 @@
 // The index block: its entries, their tests, and one walk over them.
+use crate::refusal::refuse;
 use crate::stretch::greater;
 use crate::stretch::lesser;
 use crate::stretch::share;
@@ -13,8 +14,8 @@ ghost use Prim.Native.Nat.{_+_, _*_, _^_, _≤_, _<_};
 ghost use lib.ListN.{length};
 ghost use Rattle.gsd_format.specs.Types.{sizeOf, chunkSize};
 ghost use Rattle.gsd_format.specs.Header.{greatestLength};
-ghost use Rattle.gsd_format.specs.Entries.{entryAt, entriesAt};
-ghost use Rattle.gsd_format.specs.Opening.{entryTest};
+ghost use Rattle.gsd_format.specs.Entries.{entryAt, entriesAt, key};
+ghost use Rattle.gsd_format.specs.Opening.{follows, entryTest};
 ghost use Rattle.gsd_format.proofs.Verdict.{Blocks};
 ghost use Rattle.gsd_read.specs.Index.{Capped, fieldsTest, roomTest, Walks};
 
@@ -49,6 +50,25 @@ pub fn chunk_bytes(n: u64, m: u32, kind: u8) -> u64
     lesser(n, 1073741825) * lesser(m as u64 * size_of(kind), 1073741825)
 }
 
+// (frame, id) in its order, as one number.
+fn key_of(e: Entry) -> u64
+    requires { ⌜ e .frame < 2 ^ 47 ⌝ }
+    ensures { λ r. ⌜ (r ≡ key e) × (r < 2 ^ 63) ⌝ }
+{
+    65536 * e.frame + (e.id as u64)
+}
+
+// Does the entry follow one whose key is below least and whose frame is top - 1?
+fn follows_last(least: u64, top: u64, e: Entry) -> bool
+    requires { ⌜ top < 2 ^ 47 ⌝ }
+    ensures { λ r. ⌜ r ≡ follows least top e ⌝ }
+{
+    if top < e.frame {
+        return false;
+    }
+    least <= key_of(e)
+}
+
 // 12 to 15: the entry by itself and behind the one before.
 fn fields_number(names: u64, least: u64, top: u64, e: Entry) -> u64
     requires { ⌜ top < 2 ^ 47 ⌝ }
@@ -66,13 +86,7 @@ fn fields_number(names: u64, least: u64, top: u64, e: Entry) -> u64
     if names <= e.id as u64 {
         return 14;
     }
-    if top < e.frame {
-        return 15;
-    }
-    if 65536 * e.frame + (e.id as u64) < least {
-        return 15;
-    }
-    0
+    refuse(!follows_last(least, top, e), 15)
 }
 
 // 16 and 17: n bytes from place a lie in the slice and outside both blocks.
@@ -91,6 +105,7 @@ fn room_number(l: Layout, a: u64, n: u64) -> u64
     }
     0
 }
+
 // 12 to 17 for one entry, whose chunk has size bytes.
 fn entry_number(l: Layout, names: u64, least: u64, top: u64, e: Entry, size: u64) -> u64
     requires { ⌜ Blocks l × (l .len ≤ greatestLength) × (top < 2 ^ 47) × Capped (chunkSize e) size ⌝ }
@@ -114,29 +129,25 @@ pub fn walk_entries(image: &[u8], l: Layout, names: u64) -> Walk
     let mut least = 0;
     let mut top = 0;
     let mut end = 0;
+    let mut number = 0;
     while i < slots {
         let e = entry_at(image, at);
         if e.location == 0 {
             break;
         }
         let size = chunk_bytes(e.n, e.m, e.kind);
-        let number = entry_number(l, names, least, top, e, size);
+        number = entry_number(l, names, least, top, e, size);
         if number != 0 {
-            return Walk {
-                number,
-                entries: i,
-                frames: top,
-                end,
-            };
+            break;
         }
-        least = 65536 * e.frame + (e.id as u64) + 1;
+        least = key_of(e) + 1;
         top = e.frame + 1;
         end = greater(end, e.location + size);
         at += 32;
         i += 1;
     }
     Walk {
-        number: 0,
+        number,
         entries: i,
         frames: top,
         end,

@@ -4,6 +4,7 @@ mod found;
 mod header;
 mod index;
 mod names;
+mod refusal;
 mod stretch;
 mod survey;
 
@@ -15,5 +16,6 @@ pub use found::lookup;
 pub use found::name;
 pub use found::name_bytes;
 pub use found::open;
+pub use names::NameList;
 pub use survey::Survey;
 pub use survey::survey_of;

@@ -19,13 +19,14 @@ u64-at-requires-4 c κs = search needs
 
 returns : tie.Need-returns
 unfolding layoutOf
-returns c = λ i. record {
-  len = length (c .before .before .before .before .before .args .image .now);
-  index = c .before .before .before .u64-at .ensures i;
-  slots = c .before .before .u64-at2 .ensures i;
-  namelist = c .before .u64-at3 .ensures i;
-  segments = c .u64-at4 .ensures i;
-}
+returns c =
+    λ i. record {
+      len = length (c .before .before .before .before .before .args .image .now);
+      index = c .before .before .before .u64-at .ensures i;
+      slots = c .before .before .u64-at2 .ensures i;
+      namelist = c .before .u64-at3 .ensures i;
+      segments = c .u64-at4 .ensures i;
+    }
 
 pub layout-of-spec : {M : Type 1} → statement M
 layout-of-spec =

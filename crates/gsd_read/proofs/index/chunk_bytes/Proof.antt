@@ -19,12 +19,16 @@ lesser-requires-2 : tie.Need-lesser-requires-2
 lesser-requires-2 c κs = search needs
 
 mul-result : tie.Need-mul-result
-mul-result c = omega (arith, capped-chunk (c .before .before .before .args .n) (c .before .before .before .args .m) (c .before .size-of .result) _ _ (c .before .before .lesser .ensures) (c .lesser2 .ensures) .fits)
+mul-result c =
+    let unit = c .before in
+    let a = unit .before .before .args in
+    omega (arith, capped-chunk (a .n) (a .m) (unit .size-of .result) _ _ (unit .before .lesser .ensures) (c .lesser2 .ensures) .fits)
 
 returns : tie.Need-returns
 returns c =
-    rw (← c .before .size-of .ensures .0)
-    (capped-chunk (c .before .before .before .args .n) (c .before .before .before .args .m) (c .before .size-of .result) _ _ (c .before .before .lesser .ensures) (c .lesser2 .ensures))
+    let unit = c .before in
+    let a = unit .before .before .args in
+    rw (← unit .size-of .ensures .0) (capped-chunk (a .n) (a .m) (unit .size-of .result) _ _ (unit .before .lesser .ensures) (c .lesser2 .ensures))
 
 pub chunk-bytes-spec : {M : Type 1} → statement M
 chunk-bytes-spec =

@@ -1,6 +1,6 @@
 -- An entry is read field by field.
-use lib.ListN.{getD}
 use Prim.Native.Nat.{_+_}
+use lib.ListN.{getD}
 use Rattle.gsd_format.specs.Entries.{entryAt}
 use borrow.Author.Needs.{needs}
 use Rattle.gsd_read.proofs.index.entry_at.Statement.{statement}
@@ -53,15 +53,17 @@ shared-slice-read-t19 c = search needs
 
 returns : tie.Need-returns
 unfolding entryAt
-returns c = λ i. record {
-  frame = c .before .before .before .before .before .before .u64-at .ensures i;
-  n = c .before .before .before .before .before .u64-at2 .ensures i;
-  location = c .before .before .before .before .u64-at3 .ensures i;
-  m = c .before .before .before .u32-at .ensures .0 i;
-  id = c .before .before .u16-at .ensures .0 i;
-  kind = getD (c .before .before .before .before .before .before .before .before .args .image .now) (c .before .before .before .before .before .before .before .before .args .at + 30) 0;
-  flags = getD (c .before .before .before .before .before .before .before .before .args .image .now) (c .before .before .before .before .before .before .before .before .args .at + 31) 0;
-}
+returns c =
+    let start = c .before .before .before .before .before .before .before .before in
+    λ i. record {
+      frame = c .before .before .before .before .before .before .u64-at .ensures i;
+      n = c .before .before .before .before .before .u64-at2 .ensures i;
+      location = c .before .before .before .before .u64-at3 .ensures i;
+      m = c .before .before .before .u32-at .ensures .0 i;
+      id = c .before .before .u16-at .ensures .0 i;
+      kind = getD (start .args .image .now) (start .args .at + 30) 0;
+      flags = getD (start .args .image .now) (start .args .at + 31) 0;
+    }
 
 pub entry-at-spec : {M : Type 1} → statement M
 entry-at-spec =

@@ -1,13 +1,12 @@
 -- Tests 12 to 15 in their order.
-use lib.Dec.{leb}
-use Rattle.gsd_format.specs.Entries.{key}
 use mathlib.Core.Path.{sym, _∙_, ap}
 use mathlib.Core.Bool.{not}
 use native.Mathlib.Omega.{arith}
 use borrow.Author.Tests.{lt-ltb, le-ltb, lt-leb, le-leb}
 use Rattle.gsd_format.specs.Types.{sizeOf}
+use Rattle.gsd_format.specs.Refusals.{_⇒_}
+use Rattle.gsd_format.proofs.Refusals.{decides, goes-on, left-holds, right-decides, neither-of}
 use Rattle.gsd_read.specs.Index.{fieldsTest}
-use Rattle.gsd_format.proofs.Refusals.{decides, goes-on, met, passed, left-holds, right-decides, neither-of, left-fails, right-fails, both-of}
 use borrow.Author.Needs.{needs}
 use Rattle.gsd_read.proofs.index.fields_number.Statement.{statement}
 use Rattle.gsd_read.proofs.index.fields_number.Tie as tie
@@ -26,8 +25,10 @@ size-of-requires c κs = search needs
 returns-3 : tie.Need-returns-3
 unfolding fieldsTest
 returns-3 c =
-    let place = neither-of _ _ (le-ltb _ _ (c .before .before .before .before .if1 .left)) (lt-leb _ _ (c .before .before .if2 .left)) in
-    let unknown = ap not (le-ltb 0 (sizeOf (c .before .before .before .before .before .before .args .e .kind)) (omega (arith, c .before .size-of .ensures .0))) in
+    let two = c .before .before in
+    let e = two .before .before .before .before .args .e in
+    let place = neither-of _ _ (le-ltb _ _ (two .before .before .if1 .left)) (lt-leb _ _ (two .if2 .left)) in
+    let unknown = ap not (le-ltb 0 (sizeOf (e .kind)) (omega (arith, c .before .size-of .ensures .0))) in
     sym (goes-on _ 12 _ place ∙ decides _ 12 _ unknown)
 
 cast-if4 : tie.Need-cast-if4
@@ -36,43 +37,31 @@ cast-if4 c = search needs
 returns-4 : tie.Need-returns-4
 unfolding fieldsTest
 returns-4 c =
-    let place = neither-of _ _ (le-ltb _ _ (c .before .before .before .before .before .before .if1 .left)) (lt-leb _ _ (c .before .before .before .before .if2 .left)) in
-    let known = ap not (lt-ltb 0 (sizeOf (c .before .before .before .before .before .before .before .before .args .e .kind)) (omega (arith, c .before .before .before .size-of .ensures .0))) in
+    let three = c .before .before in
+    let two = three .before .before in
+    let e = two .before .before .before .before .args .e in
+    let place = neither-of _ _ (le-ltb _ _ (two .before .before .if1 .left)) (lt-leb _ _ (two .if2 .left)) in
+    let known = ap not (lt-ltb 0 (sizeOf (e .kind)) (omega (arith, three .before .size-of .ensures .0))) in
     sym (goes-on _ 12 _ place ∙ goes-on _ 13 _ known ∙ decides _ 13 _ (le-leb _ _ (c .if4 .taken)))
+
+follows-last-requires : tie.Need-follows-last-requires
+follows-last-requires c κs = search needs
+
+refuse-requires : tie.Need-refuse-requires
+refuse-requires c κs = search needs
 
 returns-5 : tie.Need-returns-5
 unfolding fieldsTest
 returns-5 c =
-    let place = neither-of _ _ (le-ltb _ _ (c .before .before .before .before .before .before .before .before .if1 .left)) (lt-leb _ _ (c .before .before .before .before .before .before .if2 .left)) in
-    let known = ap not (lt-ltb 0 (sizeOf (c .before .before .before .before .before .before .before .before .before .before .args .e .kind)) (omega (arith, c .before .before .before .before .before .size-of .ensures .0))) in
-    let named = lt-leb _ _ (c .before .before .if4 .left) in
-    sym (goes-on _ 12 _ place ∙ goes-on _ 13 _ known ∙ goes-on _ 14 _ named ∙ met _ 15 (ap not (right-fails (leb (c .before .before .before .before .before .before .before .before .before .before .args .least) (key (c .before .before .before .before .before .before .before .before .before .before .args .e))) _ (lt-leb _ _ (c .if5 .taken)))))
-
-mul-if6 : tie.Need-mul-if6
-mul-if6 c = search needs
-
-cast-if6 : tie.Need-cast-if6
-cast-if6 c = search needs
-
-add-if6 : tie.Need-add-if6
-add-if6 c = search needs
-
-returns-6 : tie.Need-returns-6
-unfolding fieldsTest
-returns-6 c =
-    let place = neither-of _ _ (le-ltb _ _ (c .before .before .before .before .before .before .before .before .before .before .before .if1 .left)) (lt-leb _ _ (c .before .before .before .before .before .before .before .before .before .if2 .left)) in
-    let known = ap not (lt-ltb 0 (sizeOf (c .before .before .before .before .before .before .before .before .before .before .before .before .before .args .e .kind)) (omega (arith, c .before .before .before .before .before .before .before .before .size-of .ensures .0))) in
-    let named = lt-leb _ _ (c .before .before .before .before .before .if4 .left) in
-    sym (goes-on _ 12 _ place ∙ goes-on _ 13 _ known ∙ goes-on _ 14 _ named ∙ met _ 15 (ap not (left-fails _ _ (lt-leb _ _ (c .if6 .taken)))))
-
-returns-7 : tie.Need-returns-7
-unfolding fieldsTest
-returns-7 c =
-    let place = neither-of _ _ (le-ltb _ _ (c .before .before .before .before .before .before .before .before .before .before .before .if1 .left)) (lt-leb _ _ (c .before .before .before .before .before .before .before .before .before .if2 .left)) in
-    let known = ap not (lt-ltb 0 (sizeOf (c .before .before .before .before .before .before .before .before .before .before .before .before .before .args .e .kind)) (omega (arith, c .before .before .before .before .before .before .before .before .size-of .ensures .0))) in
-    let named = lt-leb _ _ (c .before .before .before .before .before .if4 .left) in
-    let follows = both-of _ _ (le-leb _ _ (c .if6 .left)) (le-leb _ _ (c .before .before .before .if5 .left)) in
-    sym (goes-on _ 12 _ place ∙ goes-on _ 13 _ known ∙ goes-on _ 14 _ named ∙ passed _ 15 (ap not follows))
+    let four = c .before .before in
+    let three = four .before .before in
+    let two = three .before .before in
+    let e = two .before .before .before .before .args .e in
+    let place = neither-of _ _ (le-ltb _ _ (two .before .before .if1 .left)) (lt-leb _ _ (two .if2 .left)) in
+    let known = ap not (lt-ltb 0 (sizeOf (e .kind)) (omega (arith, three .before .size-of .ensures .0))) in
+    let named = lt-leb _ _ (four .if4 .left) in
+    let order = ap (λ t. not t ⇒ 15) (sym (c .before .follows-last .ensures)) in
+    sym (goes-on _ 12 _ place ∙ goes-on _ 13 _ known ∙ goes-on _ 14 _ named ∙ order ∙ sym (c .refuse .ensures))
 
 pub fields-number-spec : {M : Type 1} → statement M
 fields-number-spec =
@@ -84,9 +73,6 @@ fields-number-spec =
     returns-3
     cast-if4
     returns-4
-    returns-5
-    mul-if6
-    cast-if6
-    add-if6
-    returns-6
-    returns-7)
+    follows-last-requires
+    refuse-requires
+    returns-5)

@@ -22,7 +22,9 @@ share-requires c κs = search needs
 
 returns-2 : tie.Need-returns-2
 unfolding roomTest
-returns-2 c = sym (goes-on _ 16 _ (le-ltb _ _ (c .before .before .before .if1 .left)) ∙ met _ 17 (left-holds _ _ (sym (c .before .share .ensures) ∙ c .if2 .taken)))
+returns-2 c =
+    let one = c .before .before .before in
+    sym (goes-on _ 16 _ (le-ltb _ _ (one .if1 .left)) ∙ met _ 17 (left-holds _ _ (sym (c .before .share .ensures) ∙ c .if2 .taken)))
 
 mul-share-2 : tie.Need-mul-share-2
 mul-share-2 c = search needs
@@ -32,11 +34,19 @@ share-requires-2 c κs = search needs
 
 returns-3 : tie.Need-returns-3
 unfolding roomTest
-returns-3 c = sym (goes-on _ 16 _ (le-ltb _ _ (c .before .before .before .before .before .before .if1 .left)) ∙ met _ 17 (right-decides _ _ (sym (c .before .before .before .before .share .ensures) ∙ c .before .before .before .if2 .left) ∙ (sym (c .before .share2 .ensures) ∙ c .if3 .taken)))
+returns-3 c =
+    let two = c .before .before .before in
+    let ends = le-ltb _ _ (two .before .before .before .if1 .left) in
+    let index = sym (two .before .share .ensures) ∙ two .if2 .left in
+    sym (goes-on _ 16 _ ends ∙ met _ 17 (right-decides _ _ index ∙ sym (c .before .share2 .ensures) ∙ c .if3 .taken))
 
 returns-4 : tie.Need-returns-4
 unfolding roomTest
-returns-4 c = sym (goes-on _ 16 _ (le-ltb _ _ (c .before .before .before .before .before .before .if1 .left)) ∙ passed _ 17 (neither-of _ _ (sym (c .before .before .before .before .share .ensures) ∙ c .before .before .before .if2 .left) (sym (c .before .share2 .ensures) ∙ c .if3 .left)))
+returns-4 c =
+    let two = c .before .before .before in
+    let ends = le-ltb _ _ (two .before .before .before .if1 .left) in
+    let index = sym (two .before .share .ensures) ∙ two .if2 .left in
+    sym (goes-on _ 16 _ ends ∙ passed _ 17 (neither-of _ _ index (sym (c .before .share2 .ensures) ∙ c .if3 .left)))
 
 pub room-number-spec : {M : Type 1} → statement M
 room-number-spec =
