@@ -1,6 +1,6 @@
 -- Laws of the types: the size is read off its table, and an unknown type has none.
 use Prim.Native.Nat.{ℕ, zero, suc, _≤_, _<_}
-use mathlib.Core.Path.{_≡_, refl, sym, ap}
+use mathlib.Core.Path.{_≡_, refl, sym, _∙_, ap}
 use mathlib.Core.List.{[], _∷_}
 use native.Mathlib.Decide.{decLt}
 use native.Mathlib.Omega.{arith}
@@ -35,5 +35,7 @@ size-each P one two four eight kind h =
     If : ℕ → Type 0
     If n = 0 < n → P n
 
-pub size-eight : (kind : ℕ) → 0 < sizeOf kind → (sizeOf kind ≡ 1 → ⊥) → (sizeOf kind ≡ 2 → ⊥) → (sizeOf kind ≡ 4 → ⊥) → sizeOf kind ≡ 8
-size-eight = size-each (λ n. (n ≡ 1 → ⊥) → (n ≡ 2 → ⊥) → (n ≡ 4 → ⊥) → n ≡ 8) (omega arith) (omega arith) (omega arith) (omega arith)
+pub size-eight : (kind size : ℕ) → size ≡ sizeOf kind → 0 < sizeOf kind → (size ≡ 1 → ⊥) → (size ≡ 2 → ⊥) → (size ≡ 4 → ⊥) → sizeOf kind ≡ 8
+size-eight kind size e h one two four =
+    size-each (λ n. (n ≡ 1 → ⊥) → (n ≡ 2 → ⊥) → (n ≡ 4 → ⊥) → n ≡ 8) (omega arith) (omega arith) (omega arith) (omega arith) kind h
+    (λ z. one (e ∙ z)) (λ z. two (e ∙ z)) (λ z. four (e ∙ z))

@@ -1,4 +1,4 @@
--- Laws of what is found: the search for an entry slot by slot, and that names and chunks lie in the image.
+-- Laws of what is found: the search for an entry slot by slot, where names and chunks lie, and the elements of a chunk.
 use Prim.Native.Nat.{ℕ, zero, suc, _+_, _*_, _-_, _^_, _≤_, _<_}
 use mathlib.Core.Path.{_≡_, refl, sym, _∙_, ap}
 use mathlib.Core.Bool.{true, false, _&&_}

@@ -309,7 +309,8 @@ module _ (img : List ℕ) (l : Layout) (list : NameList) (found : NamesFound img
   unfolding namesTest _⇒_ _▹_
   number-many e h = rw (sym still ∙ e, lt-ltb mostNames (length block) (omega (arith, found-count _ _ _ _ found)))
 
-  pub number-twins : (b : Bool) → more ≡ false → list .count ≤ mostNames → twins (namesIn img (list .starts) (list .count)) ≡ b → namesTest img l block ≡ (b ⇒ 11)
+  pub number-twins : (b : Bool) → more ≡ false → list .count ≤ mostNames → twins (namesIn img (list .starts) (list .count)) ≡ b →
+      namesTest img l block ≡ (b ⇒ 11)
   unfolding namesTest _⇒_ _▹_
   number-twins b e h t =
       rw (sym still ∙ e, le-ltb mostNames (length block) (omega (arith, found-count _ _ _ _ found)), sym (ap twins (found-names _ _ _ _ found h)) ∙ t)

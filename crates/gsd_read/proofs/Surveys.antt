@@ -43,7 +43,8 @@ pub bad-header : (img : List ℕ) (r : Survey) → r .number ≡ headerTest img 
 unfolding verdict
 bad-header img r e n = refused img r (e ∙ sym (stays _ _ (λ z. n (e ∙ z)))) n
 
-pub bad-blocks : (img : List ℕ) (l : Layout) (r : Survey) → headerTest img ≡ 0 → l ≡ layoutOf img → r .number ≡ blocksTest l → (r .number ≡ 0 → ⊥) → Surveyed img r
+pub bad-blocks : (img : List ℕ) (l : Layout) (r : Survey) → headerTest img ≡ 0 → l ≡ layoutOf img →
+    r .number ≡ blocksTest l → (r .number ≡ 0 → ⊥) → Surveyed img r
 unfolding verdict
 bad-blocks img l r header at e n =
     let q : r .number ≡ blocksTest (layoutOf img) = e ∙ ap blocksTest at in

@@ -16,5 +16,6 @@ pub use found::lookup;
 pub use found::name;
 pub use found::name_bytes;
 pub use found::open;
+pub use names::NameList;
 pub use survey::Survey;
 pub use survey::survey_of;

@@ -1,7 +1,7 @@
+-- An entry that is found has its chunk in the image; a refusal is passed on.
 use mathlib.Core.Path.{sym, _∙_}
 use borrow.Author.Needs.{needs}
 use Rattle.gsd_read.proofs.Lookups.{found-held, element-found, element-refused}
-use borrow.Author.Needs.{needs}
 use Rattle.gsd_read.proofs.elements.element.Statement.{statement}
 use Rattle.gsd_read.proofs.elements.element.Tie as tie
 

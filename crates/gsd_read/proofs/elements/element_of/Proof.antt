@@ -1,13 +1,13 @@
-use Prim.Native.Nat.{_*_, _^_, _<_}
-use mathlib.Core.Path.{_≡_}
+-- The kind of number by the type.
+use Prim.Native.Nat.{_^_, _<_}
+use mathlib.Core.Path.{sym, _∙_, ap}
+use native.Mathlib.Omega.{arith}
 use mir.Syntax.{w64}
 use mir.Facts.{toZ-ofZ}
-use Rattle.gsd_format.specs.declared.Element.{Element}
-use native.Mathlib.Omega.{arith}
-use mathlib.Core.Path.{sym, ap, _∙_}
-use Rattle.gsd_format.proofs.Elements.{signed-is, element-unsigned, element-signed, element-single, element-double}
-use Rattle.gsd_format.specs.Types.{sizeOf}
 use borrow.Author.Needs.{needs}
+use Rattle.gsd_format.specs.declared.Element.{Element}
+use Rattle.gsd_format.specs.Types.{sizeOf}
+use Rattle.gsd_format.proofs.Elements.{signed-is, element-unsigned, element-signed, element-single, element-double}
 use Rattle.gsd_read.proofs.elements.element_of.Statement.{statement}
 use Rattle.gsd_read.proofs.elements.element_of.Tie as tie
 
@@ -22,26 +22,34 @@ signed-of-requires c κs = search needs
 
 returns-2 : tie.Need-returns-2
 returns-2 c =
-    let e : 256 ^ sizeOf (c .before .before .before .before .args .kind) ≡ 2 * c .before .half-of .result = sym (c .before .half-of .ensures .3) in
-    ap Element.Signed
-    (toZ-ofZ {w = w64} {z = c .signed-of .result} (search needs) ∙ c .signed-of .ensures ∙ sym (signed-is (sizeOf (c .before .before .before .before .args .kind)) (c .before .before .before .before .args .bits) (c .before .half-of .result) e))
-    ∙ sym (element-signed (c .before .before .before .before .args .kind) (c .before .before .before .before .args .bits) (omega arith) (omega arith))
+    let args = c .before .before .before .before .args in
+    let half = c .before .half-of in
+    let number = c .signed-of .ensures ∙ sym (signed-is (sizeOf (args .kind)) (args .bits) (half .result) (sym (half .ensures .3))) in
+    ap Element.Signed (toZ-ofZ {w = w64} {z = c .signed-of .result} (search needs) ∙ number)
+    ∙ sym (element-signed (args .kind) (args .bits) (omega arith) (omega arith))
 
 cast-pattern : tie.Need-cast-pattern
 unfolding sizeOf
-cast-pattern c = let h : c .before .before .before .args .bits < 256 ^ sizeOf 9 = rw (c .if3 .taken) at (c .before .before .before .pre .2) in record { fits = h }
+cast-pattern c =
+    let start = c .before .before .before in
+    let h : start .args .bits < 256 ^ sizeOf 9 = rw (c .if3 .taken) at (start .pre .2) in
+    record { fits = h }
 
 single-requires : tie.Need-single-requires
 single-requires c κs = search needs
 
 returns-3 : tie.Need-returns-3
-returns-3 c = rw (c .before .if3 .taken) (ap (λ v. Element.Single v (c .before .before .before .before .args .bits)) (c .single .ensures) ∙ sym (element-single (c .before .before .before .before .args .bits)))
+returns-3 c =
+    let bits = c .before .before .before .before .args .bits in
+    rw (c .before .if3 .taken) (ap (λ v. Element.Single v bits) (c .single .ensures) ∙ sym (element-single bits))
 
 double-requires : tie.Need-double-requires
 double-requires c κs = search needs
 
 returns-4 : tie.Need-returns-4
-returns-4 c = ap (λ v. Element.Double v (c .before .before .before .before .args .bits)) (c .double .ensures) ∙ sym (element-double (c .before .before .before .before .args .kind) (c .before .before .before .before .args .bits) (omega arith))
+returns-4 c =
+    let args = c .before .before .before .before .args in
+    ap (λ v. Element.Double v (args .bits)) (c .double .ensures) ∙ sym (element-double (args .kind) (args .bits) (omega arith))
 
 pub element-of-spec : {M : Type 1} → statement M
 element-of-spec =

@@ -1,3 +1,4 @@
+-- The table of the signed types' sizes.
 use mathlib.Core.Path.{_≡_}
 use native.Mathlib.Omega.{arith}
 use Rattle.gsd_format.specs.Types.{sizeOf}

@@ -1,3 +1,4 @@
+-- A pattern above infinity's, but for the sign.
 use mathlib.Core.Path.{sym}
 use lib.Ieee.{binary32}
 use lib.Ieee.Bits.{nanBits-above}

@@ -1,3 +1,4 @@
+-- A pattern from half on is -1 less what is missing to the last pattern.
 use Prim.Native.Nat.{_-_}
 use mathlib.Core.Path.{ap, _∙_}
 use native.Mathlib.Omega.{arith}
@@ -26,11 +27,12 @@ cast-result-2 : tie.Need-cast-result-2
 cast-result-2 c = search needs
 
 sub-result-3 : tie.Need-sub-result-3
-sub-result-3 c = below-fits (c .before .args .half - 1 - (c .before .args .bits - c .before .args .half)) (omega arith)
+sub-result-3 c = let args = c .before .args in below-fits (args .half - 1 - (args .bits - args .half)) (omega arith)
 
 returns-2 : tie.Need-returns-2
 returns-2 c =
-    rw (le-ltb _ _ (c .if1 .left)) (below-read (c .before .args .half - 1 - (c .before .args .bits - c .before .args .half)) (omega arith) ∙ ap negsuc (omega arith))
+    let args = c .before .args in
+    rw (le-ltb _ _ (c .if1 .left)) (below-read (args .half - 1 - (args .bits - args .half)) (omega arith) ∙ ap negsuc (omega arith))
 
 pub signed-of-spec : {M : Type 1} → statement M
 signed-of-spec =

@@ -1,10 +1,7 @@
-use mathlib.Core.Path.{sym, subst, _∙_}
-use mathlib.Core.Bool.{Bool, not}
-use lib.Dec.{T}
+-- A NaN's pattern reads as the one NaN, any other as its float.
 use lib.Ieee.{binary32, ofBits, div}
-use lib.Ieee.Bits.{nanBits-is}
-use Rattle.gsd_read.proofs.Floats.{the-nan}
 use borrow.Author.Needs.{needs}
+use Rattle.gsd_read.proofs.Floats.{nan-of, no-nan}
 use Rattle.gsd_read.proofs.elements.single.Statement.{statement}
 use Rattle.gsd_read.proofs.elements.single.Tie as tie
 
@@ -13,10 +10,10 @@ nan32-requires c κs = search needs
 
 returns : tie.Need-returns
 unfolding div ofBits
-returns c = the-nan (ofBits binary32 (c .before .before .args .bits)) (sym (nanBits-is binary32 (c .before .before .args .bits)) ∙ sym (c .before .nan32 .ensures) ∙ c .if1 .taken)
+returns c = nan-of binary32 _ _ (c .before .nan32 .ensures) (c .if1 .taken)
 
 float-from-bits-result : tie.Need-float-from-bits-result
-float-from-bits-result c = subst (λ (b : Bool). T (not b)) (sym (c .if1 .left) ∙ c .before .nan32 .ensures) tt
+float-from-bits-result c = no-nan binary32 _ _ (c .before .nan32 .ensures) (c .if1 .left)
 
 returns-2 : tie.Need-returns-2
 returns-2 c = search needs

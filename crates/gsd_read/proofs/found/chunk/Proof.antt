@@ -1,7 +1,8 @@
+-- The chunk lies in the image.
 use mathlib.Core.Path.{_∙_, ap}
+use borrow.Author.Needs.{needs}
 use Rattle.gsd_format.specs.Lookup.{bytesAt}
 use Rattle.gsd_read.proofs.Lookups.{chunk-inside}
-use borrow.Author.Needs.{needs}
 use Rattle.gsd_read.proofs.found.chunk.Statement.{statement}
 use Rattle.gsd_read.proofs.found.chunk.Tie as tie
 

@@ -1,9 +1,7 @@
-use mathlib.Core.Path.{sym, _∙_, ap}
-use native.Mathlib.Omega.{arith}
+-- The chunk of an entry that is found is no longer than the slice, so its size is exact.
+use mathlib.Core.Path.{sym, _∙_}
 use borrow.Author.Needs.{needs}
-use Rattle.gsd_format.specs.Lookup.{placed}
 use Rattle.gsd_read.proofs.Lookups.{place-found, place-refused}
-use borrow.Author.Needs.{needs}
 use Rattle.gsd_read.proofs.found.chunk_place.Statement.{statement}
 use Rattle.gsd_read.proofs.found.chunk_place.Tie as tie
 

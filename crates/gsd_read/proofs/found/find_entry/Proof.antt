@@ -1,8 +1,9 @@
+-- None of the entries before the i-th has the frame and the id; the i-th is read at place at.
 use Prim.Native.Nat.{_+_, _*_, _-_, _≤_}
 use mathlib.Core.Path.{_≡_, refl, sym, _∙_}
 use native.Mathlib.Omega.{arith}
-use borrow.Author.Needs.{needs}
 use lib.ListN.{drop}
+use borrow.Author.Needs.{needs}
 use Rattle.gsd_format.specs.Entries.{entriesOf}
 use Rattle.gsd_format.specs.Lookup.{findEntry}
 use Rattle.gsd_read.proofs.Surveys.{slot-within}
@@ -11,7 +12,8 @@ use Rattle.gsd_read.proofs.found.find_entry.Statement.{statement}
 use Rattle.gsd_read.proofs.found.find_entry.Tie as tie
 
 abbrev Inv-loop : tie.InvT-loop
-Inv-loop image index count frame id at₀ i₀ at i = (i ≤ count) × (at ≡ index + 32 * i) × (findEntry frame id (entriesOf image) ≡ findEntry frame id (drop i (entriesOf image)))
+Inv-loop image index count frame id at₀ i₀ at i =
+    (i ≤ count) × (at ≡ index + 32 * i) × (findEntry frame id (entriesOf image) ≡ findEntry frame id (drop i (entriesOf image)))
 
 abbrev μ-loop : tie.MeasureT-loop
 μ-loop image index count frame id at₀ i₀ at i = count - i
@@ -27,8 +29,10 @@ matches-requires c κs = search needs
 
 returns : tie.Need-returns Inv-loop μ-loop
 returns c =
-    let found = found-here _ (c .before .before .before .before .before .before .pre .0) (c .before .before .before .before .loop .i) (omega arith) (c .before .before .before .before .loop .at) (omega arith) _ _ _ (c .before .before .entry-at .ensures) (sym (c .before .matches .ensures) ∙ c .if1 .taken) in
-    sym (c .before .before .before .before .loop .inv .2 ∙ found)
+    let turn = c .before .before .before .before in
+    let found = found-here _ (turn .before .before .pre .0) (turn .loop .i) (omega arith) (turn .loop .at) (omega arith) _ _ _
+    (c .before .before .entry-at .ensures) (sym (c .before .matches .ensures) ∙ c .if1 .taken) in
+    sym (turn .loop .inv .2 ∙ found)
 
 add-at : tie.Need-add-at Inv-loop μ-loop
 add-at c = omega (arith, slot-within _ (c .before .before .before .before .before .before .pre .0) (c .before .before .before .before .loop .i) (omega arith))
@@ -41,8 +45,10 @@ loop-less c = search needs
 
 loop-again : tie.Need-loop-again Inv-loop μ-loop
 loop-again c =
-    let passed = found-on _ (c .before .before .before .before .before .before .pre .0) (c .before .before .before .before .loop .i) (omega arith) (c .before .before .before .before .loop .at) (omega arith) _ _ _ (c .before .before .entry-at .ensures) (sym (c .before .matches .ensures) ∙ c .if1 .left) in
-    (omega arith, omega arith, c .before .before .before .before .loop .inv .2 ∙ passed)
+    let turn = c .before .before .before .before in
+    let passed = found-on _ (turn .before .before .pre .0) (turn .loop .i) (omega arith) (turn .loop .at) (omega arith) _ _ _
+    (c .before .before .entry-at .ensures) (sym (c .before .matches .ensures) ∙ c .if1 .left) in
+    (omega arith, omega arith, turn .loop .inv .2 ∙ passed)
 
 returns-2 : tie.Need-returns-2 Inv-loop μ-loop
 returns-2 c = sym (c .before .loop .inv .2 ∙ found-none _ _ (entriesOf _) (c .before .loop .i) (omega arith))

@@ -1,3 +1,4 @@
+-- The test of the definition, frame first.
 use borrow.Author.Tests.{ne-eqb, eq-eqb}
 use borrow.Author.Needs.{needs}
 use Rattle.gsd_read.proofs.found.matches.Statement.{statement}

@@ -1,7 +1,7 @@
-use borrow.Author.Needs.{needs}
+-- The n-th name lies in the image.
 use mathlib.Core.Path.{_∙_, ap}
+use borrow.Author.Needs.{needs}
 use Rattle.gsd_format.specs.Lookup.{bytesAt}
-use Rattle.gsd_read.specs.Lookups.{Inside}
 use Rattle.gsd_read.proofs.Lookups.{name-inside}
 use Rattle.gsd_read.proofs.found.name_bytes.Statement.{statement}
 use Rattle.gsd_read.proofs.found.name_bytes.Tie as tie

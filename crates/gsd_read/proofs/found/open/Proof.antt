@@ -1,3 +1,4 @@
+-- The survey's number is passed on, or its counts are answered.
 use mathlib.Core.Path.{sym}
 use borrow.Author.Needs.{needs}
 use Rattle.gsd_format.specs.declared.Opening.{Opening}

@@ -1,8 +1,8 @@
+-- The place lies in the image; a refusal has no bytes.
 use mathlib.Core.Path.{sym}
 use native.Mathlib.Omega.{arith}
 use borrow.Author.Needs.{needs}
 use Rattle.gsd_read.proofs.Lookups.{inside-at, bytes-at, bytes-none}
-use borrow.Author.Needs.{needs}
 use Rattle.gsd_read.proofs.found.part_at.Statement.{statement}
 use Rattle.gsd_read.proofs.found.part_at.Tie as tie
 

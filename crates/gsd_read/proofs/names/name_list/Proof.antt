@@ -50,8 +50,9 @@ loop-less c = search needs
 loop-again : tie.Need-loop-again Inv-loop μ-loop
 loop-again c =
     let turn = c .before .before in
-    let more = found-more _ _ _ (search needs) _ _ _ _ (turn .before .loop .inv .0) (turn .loop-test .taken) (turn .before .loop .inv .1) in
-    (⊎-elim (λ w. rw (w .1) more) (λ w. rw (w .1) (found-full _ _ _ _ _ _ (turn .before .loop .inv .0) (w .0 .left) more)) (c .before .if1 .came), c .past-name2 .ensures)
+    let inv = turn .before .loop .inv in
+    let more = found-more _ _ _ (search needs) _ _ _ _ (inv .0) (turn .loop-test .taken) (inv .1) in
+    (⊎-elim (λ w. rw (w .1) more) (λ w. rw (w .1) (found-full _ _ _ _ _ _ (inv .0) (w .0 .left) more)) (c .before .if1 .came), c .past-name2 .ensures)
 
 returns : tie.Need-returns Inv-loop μ-loop
 returns c = found-all _ _ _ _ _ _ _ (c .before .loop .inv .0) (c .loop-test .left) (c .before .loop .inv .1)

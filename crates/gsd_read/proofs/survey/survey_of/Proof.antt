@@ -1,9 +1,9 @@
--- `gsd_read::survey::survey_of` meets its contract: the first part that refuses, or what the lists say.
+-- The first part that refuses, or what the lists say.
 use mathlib.Core.Path.{sym, _∙_}
 use native.Mathlib.Omega.{arith}
+use borrow.Author.Needs.{needs}
 use Rattle.gsd_format.proofs.Verdict.{header-zero}
 use Rattle.gsd_read.proofs.Surveys.{layout-length, bad-header, bad-blocks}
-use borrow.Author.Needs.{needs}
 use Rattle.gsd_read.proofs.survey.survey_of.Statement.{statement}
 use Rattle.gsd_read.proofs.survey.survey_of.Tie as tie
 
@@ -29,7 +29,9 @@ refusal-requires-2 c κs = search needs
 
 returns-2 : tie.Need-returns-2
 returns-2 c =
-    bad-blocks _ _ _ (sym (c .before .before .before .before .before .header-number .ensures) ∙ c .before .before .before .before .if1 .left) (c .before .before .before .layout-of .ensures) (c .refusal2 .ensures ∙ c .before .before .blocks-number .ensures)
+    let laid = c .before .before .before in
+    let header = sym (laid .before .before .header-number .ensures) ∙ laid .before .if1 .left in
+    bad-blocks _ _ _ header (laid .layout-of .ensures) (c .refusal2 .ensures ∙ c .before .before .blocks-number .ensures)
     (λ z. c .before .if2 .taken (sym (c .refusal2 .ensures) ∙ z))
 
 survey-lists-requires : tie.Need-survey-lists-requires
