@@ -1,7 +1,7 @@
--- Laws of the listing's text: the equations of decimals, and how long a number's text can be.
+-- Laws of the listing's text: the equations of decimals, lines and the whole text, and how long a number's text can be.
 use Prim.Native.Nat.{ℕ, zero, suc, _+_, _*_, _/_, _%_, _^_, _≤_, _<_}
 use mathlib.Core.Path.{_≡_, refl, sym, _∙_, ap}
-use mathlib.Core.List.{List, [], _∷_, _++_}
+use mathlib.Core.List.{List, [], _∷_, _++_, append-assoc}
 use native.Mathlib.Nat.{pow-suc}
 use native.Mathlib.Numerals.{add-one}
 use native.Mathlib.Decide.{decLt}
@@ -11,7 +11,12 @@ use lib.Seq.{drop-cons}
 use borrow.Author.Tests.{lt-ltb, le-ltb}
 use Rattle.gsd_format.specs.Bytes.{stored}
 use Rattle.gsd_format.specs.Ascii.{ascii}
-use Rattle.gsd_format.specs.Listing.{digits, decimal, fields}
+use Rattle.gsd_format.specs.declared.Entry.{Entry}
+use Rattle.gsd_format.specs.Names.{namesOf}
+use Rattle.gsd_format.specs.Entries.{entriesOf, framesOf}
+use Rattle.gsd_format.specs.Opening.{verdict}
+use Rattle.gsd_format.specs.Lookup.{none}
+use Rattle.gsd_format.specs.Listing.{digits, decimal, fields, entryLine, entryLines, countsLine, listing, longestInput, printed}
 use Rattle.gsd_format.proofs.Lists.{Each}
 use Rattle.gsd_format.proofs.Bytes.{stored-append}
 
@@ -68,7 +73,8 @@ pub small-stored : (s : List ℕ) (i n : ℕ) → n < 10 → stored s i (decimal
 unfolding stored
 small-stored s i n h = rw (decimal-small n h)
 
-pub more-stored : (s : List ℕ) (i n : ℕ) → 10 ≤ n → stored s i (decimal n) ≡ set (stored s i (decimal (n / 10))) (i + length (decimal (n / 10))) (48 + n % 10)
+pub more-stored : (s : List ℕ) (i n : ℕ) → 10 ≤ n →
+    stored s i (decimal n) ≡ set (stored s i (decimal (n / 10))) (i + length (decimal (n / 10))) (48 + n % 10)
 unfolding stored
 more-stored s i n h = rw (decimal-more n h) (stored-append s i (decimal (n / 10)) ((48 + n % 10) ∷ []))
 
@@ -84,12 +90,14 @@ fields-more n ns = refl
 
 -- the i-th field and those behind it, put into a buffer
 pub fields-stored : (s : List ℕ) (to : ℕ) (ns : List ℕ) (i : ℕ) → i < length ns →
-    stored s to (fields (drop i ns)) ≡ stored (stored (set s to 32) (to + 1) (decimal (getD ns i 0))) (to + 1 + length (decimal (getD ns i 0))) (fields (drop (i + 1) ns))
+    stored s to (fields (drop i ns))
+    ≡ stored (stored (set s to 32) (to + 1) (decimal (getD ns i 0))) (to + 1 + length (decimal (getD ns i 0))) (fields (drop (i + 1) ns))
 unfolding stored
 fields-stored s to ns i h =
     rw (drop-cons ns i 0 h, fields-more, add-one i) (stored-append (set s to 32) (to + 1) (decimal (getD ns i 0)) (fields (drop (suc i) ns)))
 
-pub fields-length : (ns : List ℕ) (i : ℕ) → i < length ns → length (fields (drop i ns)) ≡ 1 + length (decimal (getD ns i 0)) + length (fields (drop (i + 1) ns))
+pub fields-length : (ns : List ℕ) (i : ℕ) → i < length ns →
+    length (fields (drop i ns)) ≡ 1 + length (decimal (getD ns i 0)) + length (fields (drop (i + 1) ns))
 fields-length ns i h = rw (drop-cons ns i 0 h, fields-more, add-one i) (omega (arith, length-append (decimal (getD ns i 0)) (fields (drop (suc i) ns))))
 
 pub fields-last : (ns : List ℕ) (i : ℕ) → length ns ≤ i → fields (drop i ns) ≡ 10 ∷ []
@@ -100,3 +108,42 @@ pub fields-short : (ns : List ℕ) → Each (λ n. n < 2 ^ 64) ns → length (fi
 fields-short [] h = rw fields-none (omega arith)
 fields-short (n ∷ ns) h =
     rw fields-more (omega (arith, length-append (decimal n) (fields ns), decimal-long n (h .0), fields-short ns (h .1)))
+
+-- The lines of the entries
+
+pub lines-none : entryLines [] ≡ []
+unfolding entryLines
+lines-none = refl
+
+lines-more : (e : Entry) (es : List Entry) → entryLines (e ∷ es) ≡ entryLine e ++ entryLines es
+unfolding entryLines
+lines-more e es = refl
+
+-- with the i-th entry's line put behind the text, the lines behind it are left
+pub lines-put : (es : List Entry) (i : ℕ) → i < length es → (text line grown : List ℕ) → line ≡ entryLine (getD es i none) → grown ≡ text ++ line →
+    grown ++ entryLines (drop (i + 1) es) ≡ text ++ entryLines (drop i es)
+lines-put es i h text line grown l g =
+    let e : entryLines (drop i es) ≡ entryLine (getD es i none) ++ entryLines (drop (i + 1) es) = rw (drop-cons es i none h, lines-more, add-one i) in
+    rw (g, l, e) (append-assoc text (entryLine (getD es i none)) (entryLines (drop (i + 1) es)))
+
+pub lines-last : (es : List Entry) (i : ℕ) → length es ≤ i → entryLines (drop i es) ≡ []
+lines-last es i h = rw (drop-of-length-le es h) lines-none
+
+-- What is printed
+
+pub listing-open : (img : List ℕ) → verdict img ≡ 0 →
+    listing img ≡ countsLine (framesOf (entriesOf img)) (length (namesOf img)) (length (entriesOf img)) ++ entryLines (entriesOf img)
+unfolding listing
+listing-open img e = rw (e, listing)
+
+pub listing-refused : (img : List ℕ) (k : ℕ) → verdict img ≡ suc k → listing img ≡ ascii "refused" ++ fields (suc k ∷ [])
+unfolding listing
+listing-refused img k e = rw (e, listing)
+
+pub printed-short : (input : List ℕ) → length input ≤ longestInput → printed input ≡ listing input
+unfolding printed
+printed-short input h = rw (le-ltb longestInput (length input) h, printed)
+
+pub printed-long : (input : List ℕ) → longestInput < length input → printed input ≡ ascii "too long\n"
+unfolding printed
+printed-long input h = rw (lt-ltb longestInput (length input) h, printed)
