@@ -125,7 +125,7 @@ module _ (img : List ℕ) (s : Survey) (told : Surveyed img s) (good : s .number
   unfolding nameParts
   many-parts = listed .count
 
-  many-names : s .names .count ≡ length (namesOf img)
+  pub many-names : s .names .count ≡ length (namesOf img)
   unfolding namesOf
   many-names = many-parts ∙ sym (length-map (nameParts img) (bytesOf img))
 

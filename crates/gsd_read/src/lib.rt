@@ -16,6 +16,7 @@ pub use found::lookup;
 pub use found::name;
 pub use found::name_bytes;
 pub use found::open;
+pub use index::slot;
 pub use names::NameList;
 pub use survey::Survey;
 pub use survey::survey_of;
