@@ -211,11 +211,7 @@ fn part(image: &[u8], [start, length]: [u64; 2]) -> &[u8] {
 pub fn open(image: &[u8]) -> Result<Counts, Refusal> {
     let [frames, names, entries] =
         answer(|out| unsafe { ffi::dialmoth_open(image.as_ptr(), image.len(), out) })?;
-    Ok(Counts {
-        frames,
-        names,
-        entries,
-    })
+    Ok(Counts { frames, names, entries })
 }
 
 /// The n-th name, from 0; `n` is its id.
@@ -315,11 +311,7 @@ pub struct Row<'a> {
 pub fn sheet(rows: &[Row]) -> Vec<u8> {
     let bodies: usize = rows.iter().map(|row| row.name.len() + row.data.len()).sum();
     let mut sheet = Vec::with_capacity(4 + 16 * rows.len() + bodies);
-    sheet.extend(
-        u32::try_from(rows.len())
-            .expect("too many rows")
-            .to_le_bytes(),
-    );
+    sheet.extend(u32::try_from(rows.len()).expect("too many rows").to_le_bytes());
     for row in rows {
         sheet.extend(row.n.to_le_bytes());
         sheet.extend(row.m.to_le_bytes());

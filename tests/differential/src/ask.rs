@@ -34,10 +34,7 @@ pub trait Ask: Library {
     }
 
     fn bytes<'a>(&self, image: &'a [u8], frame: u64, name: &[u8]) -> Answer<&'a [u8]> {
-        Ok(part(
-            image,
-            answer(|out| self.chunk(image, frame, name, out))?,
-        ))
+        Ok(part(image, answer(|out| self.chunk(image, frame, name, out))?))
     }
 
     /// Kind and bits.
@@ -48,13 +45,7 @@ pub trait Ask: Library {
     /// A fresh image of `length` bytes, zero before, with empty texts.
     fn fresh(&self, length: usize, slots: u64, segments: u64) -> Answer<Vec<u8>> {
         let mut image = vec![0; length];
-        let create = Create {
-            application: b"",
-            schema: b"",
-            schema_version: 0,
-            slots,
-            segments,
-        };
+        let create = Create { application: b"", schema: b"", schema_version: 0, slots, segments };
         match self.create(&mut image, create) {
             0 => Ok(image),
             number => Err(number),

@@ -19,10 +19,7 @@ pub fn sheet_a() -> Vec<u8> {
 }
 
 pub fn sheet_b() -> Vec<u8> {
-    sheet(&[
-        Row::new(b"probe", 9, 3, 1, &PROBE),
-        Row::new(b"heater", 1, 1, 1, &[40]),
-    ])
+    sheet(&[Row::new(b"probe", 9, 3, 1, &PROBE), Row::new(b"heater", 1, 1, 1, &[40])])
 }
 
 /// The fresh image of the worked cases: 2 slots at 256, 1 segment at 320, 384 bytes used.
@@ -53,9 +50,7 @@ fn entries(length: usize, slots: &[Slot]) -> Vec<u8> {
 fn many_names(count: usize) -> Vec<u8> {
     let segments = (8 * count).div_ceil(64) + 1;
     let mut image = blank(320 + 64 * segments, 256, 2, 320, segments as u64);
-    let names: Vec<_> = (0..count)
-        .map(|n| format!("n{n:06}").into_bytes())
-        .collect();
+    let names: Vec<_> = (0..count).map(|n| format!("n{n:06}").into_bytes()).collect();
     put_names(&mut image, 320, names.iter().map(Vec::as_slice));
     image
 }
@@ -79,10 +74,7 @@ pub const CASES: &[Case] = &[
         assert_eq!(l.counts(&stopped), Ok([0, 1, 0]));
         let (after, stores) = l.after(&image, &sheet_a(), 23);
         assert_eq!(stores, Ok([23, 23]));
-        assert_eq!(
-            l.listing(&after),
-            "frames 1 names 1 entries 1\n0 0 9 3 1 384\n"
-        );
+        assert_eq!(l.listing(&after), "frames 1 names 1 entries 1\n0 0 9 3 1 384\n");
         assert_eq!(l.bytes(&after, 0, b"probe"), Ok(&PROBE[..]));
         // End of use 400: the next chunk lies there.
         let (next, _) = l.after(&after, &nothing(b"probe"), ALL);
@@ -135,10 +127,7 @@ pub const CASES: &[Case] = &[
         assert_eq!(l.after(&image, &sheet(&rows), ALL), (image, Err(22)));
     }),
     ("worked: location -1", |l| {
-        assert_eq!(
-            l.counts(&entries(512, &[Slot::bytes(0, 0, u64::MAX, 0)])),
-            Err(12)
-        );
+        assert_eq!(l.counts(&entries(512, &[Slot::bytes(0, 0, u64::MAX, 0)])), Err(12));
     }),
     ("numbers 1 to 5", |l| {
         assert_eq!(l.counts(&[]), Err(1));
@@ -165,9 +154,7 @@ pub const CASES: &[Case] = &[
     }),
     ("numbers 6 to 8", |l| {
         let verdict = |index, slots, names, segments| {
-            l.counts(&blank(512, index, slots, names, segments))
-                .err()
-                .unwrap_or(0)
+            l.counts(&blank(512, index, slots, names, segments)).err().unwrap_or(0)
         };
         assert_eq!(verdict(255, 1, 320, 1), 6);
         assert_eq!(verdict(481, 1, 256, 1), 6);
@@ -196,51 +183,22 @@ pub const CASES: &[Case] = &[
         let verdict = |slots: &[Slot]| l.counts(&entries(512, slots)).err().unwrap_or(0);
         let good = Slot::bytes(0, 0, 384, 4);
         assert_eq!(verdict(&[good]), 0);
-        assert_eq!(
-            verdict(&[Slot {
-                location: 255,
-                ..good
-            }]),
-            12
-        );
+        assert_eq!(verdict(&[Slot { location: 255, ..good }]), 12);
         assert_eq!(verdict(&[Slot { kind: 11, ..good }]), 13);
         assert_eq!(verdict(&[Slot { id: 1, ..good }]), 14);
         assert_eq!(verdict(&[Slot { frame: 1, ..good }]), 15);
         assert_eq!(verdict(&[good, good]), 15);
         assert_eq!(verdict(&[good, Slot { frame: 1, ..good }]), 0);
         assert_eq!(verdict(&[good, Slot { frame: 2, ..good }]), 15);
-        assert_eq!(
-            verdict(&[Slot {
-                frame: u64::MAX,
-                ..good
-            }]),
-            15
-        );
+        assert_eq!(verdict(&[Slot { frame: u64::MAX, ..good }]), 15);
         assert_eq!(verdict(&[Slot { n: 129, ..good }]), 16);
         assert_eq!(verdict(&[Slot { n: 128, ..good }]), 0);
-        assert_eq!(
-            verdict(&[Slot {
-                location: 319,
-                n: 1,
-                ..good
-            }]),
-            17
-        );
-        assert_eq!(
-            verdict(&[Slot {
-                location: 383,
-                ..good
-            }]),
-            17
-        );
+        assert_eq!(verdict(&[Slot { location: 319, n: 1, ..good }]), 17);
+        assert_eq!(verdict(&[Slot { location: 383, ..good }]), 17);
         assert_eq!(verdict(&[Slot { flags: 255, ..good }]), 0);
         // Ids fall from a frame to the next, and rise within one.
         let mut image = listing(512, &[b"a", b"b"]);
-        put_slots(
-            &mut image,
-            256,
-            &[Slot { id: 1, ..good }, Slot { frame: 1, ..good }],
-        );
+        put_slots(&mut image, 256, &[Slot { id: 1, ..good }, Slot { frame: 1, ..good }]);
         assert_eq!(l.counts(&image), Ok([2, 2, 2]));
         put_slots(&mut image, 256, &[Slot { id: 1, ..good }, good]);
         assert_eq!(l.counts(&image), Err(15));
@@ -251,10 +209,7 @@ pub const CASES: &[Case] = &[
         let image = fresh(l);
         let number = |sheet: &[u8]| {
             let (after, stores) = l.after(&image, sheet, ALL);
-            assert!(
-                stores.is_ok() || after == image,
-                "a refusal changes nothing"
-            );
+            assert!(stores.is_ok() || after == image, "a refusal changes nothing");
             stores.err().unwrap_or(0)
         };
         let good = sheet_b();
@@ -277,10 +232,7 @@ pub const CASES: &[Case] = &[
         assert_eq!(number(&good[..59]), 25);
         assert_eq!(number(&[&good[..], &[0]].concat()), 25);
         assert_eq!(changed(36, 0), 26);
-        assert_eq!(
-            number(&sheet(&[Row::bytes(b"ab", b"1"), Row::bytes(b"ab", b"")])),
-            27
-        );
+        assert_eq!(number(&sheet(&[Row::bytes(b"ab", b"1"), Row::bytes(b"ab", b"")])), 27);
         assert_eq!(number(&good), 0);
     }),
     ("number 28", |l| {
@@ -350,19 +302,12 @@ pub const CASES: &[Case] = &[
         }
         for (location, number) in [(255, 12), (256, 0), (300, 0), (330, 0), (512, 0), (513, 16)] {
             let image = entries(512, &[Slot::bytes(0, 0, location, 0)]);
-            assert_eq!(
-                l.counts(&image).err().unwrap_or(0),
-                number,
-                "chunk at {location}"
-            );
+            assert_eq!(l.counts(&image).err().unwrap_or(0), number, "chunk at {location}");
         }
     }),
     ("the end of use counts empty things", |l| {
         let image = entries(500, &[Slot::bytes(0, 0, 500, 0)]);
-        assert_eq!(
-            l.after(&image, &nothing(b"a"), ALL),
-            (image.clone(), Err(29))
-        );
+        assert_eq!(l.after(&image, &nothing(b"a"), ALL), (image.clone(), Err(29)));
         let longer = entries(504, &[Slot::bytes(0, 0, 500, 0)]);
         let (after, stores) = l.after(&longer, &nothing(b"a"), ALL);
         assert!(stores.is_ok());
@@ -402,28 +347,20 @@ pub const CASES: &[Case] = &[
         assert_eq!(l.after(&image[..455], &row, ALL).1, Err(29));
     }),
     ("blocks double as often as needed", |l| {
-        let rows: Vec<_> = (0..60)
-            .map(|n| Row::bytes(format!("twelve {n:05}").as_bytes(), &[n]))
-            .collect();
+        let rows: Vec<_> =
+            (0..60).map(|n| Row::bytes(format!("twelve {n:05}").as_bytes(), &[n])).collect();
         let image = l.fresh(16_384, 1, 1).unwrap();
         let (after, stores) = l.after(&image, &sheet(&rows), ALL);
         // 60 names of 12 bytes and a zero are 780 bytes: 16 segments. 60 entries: 64 slots.
         assert_eq!([get64(&after, 16), get64(&after, 32)], [64, 16]);
-        assert_eq!(
-            [get64(&after, 24), get64(&after, 8)],
-            [352 + 480, 352 + 480 + 1024]
-        );
+        assert_eq!([get64(&after, 24), get64(&after, 8)], [352 + 480, 352 + 480 + 1024]);
         assert!(stores.is_ok());
         assert_eq!(l.counts(&after), Ok([1, 60, 60]));
     }),
     ("step 1 is never skipped", |l| {
         let (mut image, _) = l.after(&fresh(l), &sheet_a(), ALL);
         // Leftovers behind both lists, in blocks that sheet B's append keeps and leaves.
-        Slot {
-            location: 0,
-            ..Slot::bytes(7, 7, 0, 7)
-        }
-        .put(&mut image, 288);
+        Slot { location: 0, ..Slot::bytes(7, 7, 0, 7) }.put(&mut image, 288);
         image[327..384].fill(b'x');
         let (after, stores) = l.after(&image, &sheet_b(), ALL);
         assert_eq!(stores, Ok([43, 43]));
@@ -457,10 +394,7 @@ pub const CASES: &[Case] = &[
         assert_eq!(l.counts(&second), Ok([0, 2, 0]));
         assert_eq!(stores, Ok([18, 22]));
         // A name of eight bytes on a word: its zero takes no store.
-        assert_eq!(
-            l.after(&fresh(l), &nothing(b"position"), ALL).1,
-            Ok([21, 21])
-        );
+        assert_eq!(l.after(&fresh(l), &nothing(b"position"), ALL).1, Ok([21, 21]));
     }),
     ("tests come before the limit", |l| {
         let image = fresh(l);
@@ -498,15 +432,7 @@ pub const CASES: &[Case] = &[
     ("odd names are just not listed", |l| {
         let (image, _) = l.after(&fresh(l), &sheet_a(), ALL);
         let long = [b'x'; 300];
-        for name in [
-            &b""[..],
-            b"\0",
-            b"probe\0",
-            b"prob",
-            b"probes",
-            b"\0probe",
-            &long,
-        ] {
+        for name in [&b""[..], b"\0", b"probe\0", b"prob", b"probes", b"\0probe", &long] {
             assert_eq!(l.find(&image, 0, name), Err(41));
             assert_eq!(l.find(&image, 1, name), Err(40));
         }
@@ -515,20 +441,11 @@ pub const CASES: &[Case] = &[
         let create = |length: usize, text: &[u8], slots: u64, segments: u64| {
             let mut image = vec![7; length];
             let both = [(text, &b""[..]), (b"", text)].map(|(application, schema)| {
-                let request = Create {
-                    application,
-                    schema,
-                    schema_version: 1,
-                    slots,
-                    segments,
-                };
+                let request = Create { application, schema, schema_version: 1, slots, segments };
                 l.create(&mut image, request)
             });
             assert_eq!(both[0], both[1]);
-            assert!(
-                both[0] == 0 || image == vec![7; length],
-                "a refusal changes nothing"
-            );
+            assert!(both[0] == 0 || image == vec![7; length], "a refusal changes nothing");
             both[0]
         };
         assert_eq!(create(10, &[b'x'; 64], 65_537, 1), 50);
@@ -572,15 +489,7 @@ pub const CASES: &[Case] = &[
         assert_eq!(l.counts(&blank(512, ALL, 0, 320, 1)), Err(6));
     }),
     ("chunk sizes do not wrap", |l| {
-        let chunk = |n, m, kind| Slot {
-            frame: 0,
-            n,
-            location: 384,
-            m,
-            id: 0,
-            kind,
-            flags: 0,
-        };
+        let chunk = |n, m, kind| Slot { frame: 0, n, location: 384, m, id: 0, kind, flags: 0 };
         let verdict = |slot| l.counts(&entries(512, &[slot])).err().unwrap_or(0);
         assert_eq!(verdict(chunk(1 << 62, 4, 1)), 16);
         assert_eq!(verdict(chunk(1 << 61, 1, 10)), 16);
@@ -597,9 +506,7 @@ pub const CASES: &[Case] = &[
     }),
     ("locations are signed for 12 and do not wrap", |l| {
         let verdict = |location, n| {
-            l.counts(&entries(512, &[Slot::bytes(0, 0, location, n)]))
-                .err()
-                .unwrap_or(0)
+            l.counts(&entries(512, &[Slot::bytes(0, 0, location, n)])).err().unwrap_or(0)
         };
         assert_eq!(verdict(1 << 63, 1), 12);
         assert_eq!(verdict((1 << 63) - 1, 1), 16);
@@ -610,110 +517,42 @@ pub const CASES: &[Case] = &[
     ("the list ends at location 0 before any test", |l| {
         let mut image = blank(1024, 256, 3, 352, 1);
         put_names(&mut image, 352, [&b"a"[..]]);
-        let end = Slot {
-            frame: 99,
-            n: 1,
-            location: 0,
-            m: 1,
-            id: 65535,
-            kind: 99,
-            flags: 1,
-        };
-        put_slots(
-            &mut image,
-            256,
-            &[end, Slot::bytes(0, 0, 500, 4), Slot::bytes(1, 0, 500, 4)],
-        );
+        let end = Slot { frame: 99, n: 1, location: 0, m: 1, id: 65535, kind: 99, flags: 1 };
+        put_slots(&mut image, 256, &[end, Slot::bytes(0, 0, 500, 4), Slot::bytes(1, 0, 500, 4)]);
         assert_eq!(l.counts(&image), Ok([0, 1, 0]));
         assert_eq!(l.nth_entry(&image, 0), Err(44));
         let (after, _) = l.after(&image, &nothing(b"a"), ALL);
         assert_eq!(l.counts(&after), Ok([1, 1, 1]));
         assert!(after[288..352].iter().all(|&byte| byte == 0));
     }),
-    (
-        "the first bad entry decides, in it the lowest number",
-        |l| {
-            let verdict = |slots: &[Slot]| l.counts(&entries(512, slots)).err().unwrap_or(0);
-            let far = Slot::bytes(0, 0, 511, 9);
-            assert_eq!(verdict(&[far, Slot::bytes(0, 0, 1, 1)]), 16);
-            let all = Slot {
-                frame: 3,
-                n: 9,
-                location: 2,
-                m: 1,
-                id: 9,
-                kind: 0,
-                flags: 0,
-            };
-            assert_eq!(verdict(&[all]), 12);
-            assert_eq!(
-                verdict(&[Slot {
-                    location: 511,
-                    ..all
-                }]),
-                13
-            );
-            assert_eq!(
-                verdict(&[Slot {
-                    location: 511,
-                    kind: 1,
-                    ..all
-                }]),
-                14
-            );
-            assert_eq!(
-                verdict(&[Slot {
-                    location: 511,
-                    kind: 1,
-                    id: 0,
-                    ..all
-                }]),
-                15
-            );
-            assert_eq!(
-                verdict(&[Slot {
-                    location: 300,
-                    n: 500,
-                    ..far
-                }]),
-                16
-            );
-        },
-    ),
+    ("the first bad entry decides, in it the lowest number", |l| {
+        let verdict = |slots: &[Slot]| l.counts(&entries(512, slots)).err().unwrap_or(0);
+        let far = Slot::bytes(0, 0, 511, 9);
+        assert_eq!(verdict(&[far, Slot::bytes(0, 0, 1, 1)]), 16);
+        let all = Slot { frame: 3, n: 9, location: 2, m: 1, id: 9, kind: 0, flags: 0 };
+        assert_eq!(verdict(&[all]), 12);
+        assert_eq!(verdict(&[Slot { location: 511, ..all }]), 13);
+        assert_eq!(verdict(&[Slot { location: 511, kind: 1, ..all }]), 14);
+        assert_eq!(verdict(&[Slot { location: 511, kind: 1, id: 0, ..all }]), 15);
+        assert_eq!(verdict(&[Slot { location: 300, n: 500, ..far }]), 16);
+    }),
     ("type 0 is unknown", |l| {
-        let zero = Slot {
-            kind: 0,
-            ..Slot::bytes(0, 0, 384, 1)
-        };
+        let zero = Slot { kind: 0, ..Slot::bytes(0, 0, 384, 1) };
         assert_eq!(l.counts(&entries(512, &[zero])), Err(13));
-        assert_eq!(
-            l.after(&fresh(l), &sheet(&[Row::new(b"a", 0, 0, 0, b"")]), ALL)
-                .1,
-            Err(24)
-        );
+        assert_eq!(l.after(&fresh(l), &sheet(&[Row::new(b"a", 0, 0, 0, b"")]), ALL).1, Err(24));
     }),
     ("each of 22 to 27 is tested over all rows", |l| {
         let number = |sheet: &[u8]| l.after(&fresh(l), sheet, ALL).1.err().unwrap_or(0);
         assert_eq!(number(&[65, 0, 0, 0]), 22);
         let long = Row::new(b"a", 1, 9, 1, b"");
-        assert_eq!(
-            number(&sheet(&[long.clone(), Row::new(b"b", 11, 0, 1, b"")])),
-            24
-        );
+        assert_eq!(number(&sheet(&[long.clone(), Row::new(b"b", 11, 0, 1, b"")])), 24);
         assert_eq!(number(&sheet(&[Row::bytes(b"\0", b""), long])), 25);
         let twice = Row::bytes(b"a", b"");
-        assert_eq!(
-            number(&sheet(&[twice.clone(), twice, Row::bytes(b"b\0", b"")])),
-            26
-        );
+        assert_eq!(number(&sheet(&[twice.clone(), twice, Row::bytes(b"b\0", b"")])), 26);
     }),
     ("rows arrive in any order", |l| {
         let (image, _) = l.after(&fresh(l), &nothing(b"m"), ALL);
-        let rows = [
-            Row::bytes(b"z", b"zz"),
-            Row::bytes(b"m", b"mmm"),
-            Row::bytes(b"a", b"a"),
-        ];
+        let rows = [Row::bytes(b"z", b"zz"), Row::bytes(b"m", b"mmm"), Row::bytes(b"a", b"a")];
         let (after, stores) = l.after(&image, &sheet(&rows), ALL);
         // Data by row, new ids by row, entries by id.
         assert_eq!(
@@ -725,13 +564,7 @@ pub const CASES: &[Case] = &[
         // Stored from the highest id down, the location at last.
         let index = get64(&after, 8) as usize;
         let whole = stores.unwrap()[1];
-        for (behind, missing) in [
-            (1, 32 + 16),
-            (2, 32 + 24),
-            (3, 32 + 8),
-            (4, 32),
-            (5, 64 + 16),
-        ] {
+        for (behind, missing) in [(1, 32 + 16), (2, 32 + 24), (3, 32 + 8), (4, 32), (5, 64 + 16)] {
             let (stopped, _) = l.after(&image, &sheet(&rows), whole - behind);
             let word = index + missing..index + missing + 8;
             assert_eq!(stopped[word.clone()], [0; 8]);
@@ -739,25 +572,19 @@ pub const CASES: &[Case] = &[
             assert_eq!(stopped[word.clone()], after[word]);
         }
     }),
-    (
-        "a name shown by a stopped append is an existing name",
-        |l| {
-            let (stopped, _) = l.after(&fresh(l), &sheet_a(), 22);
-            let (after, stores) = l.after(&stopped, &sheet_a(), ALL);
-            assert_eq!(stores, Ok([22, 22]));
-            assert_eq!(
-                l.listing(&after),
-                "frames 1 names 1 entries 1\n0 0 9 3 1 384\n"
-            );
-            let mut image = many_names(1023);
-            image.resize(image.len() + 65_536, 0);
-            let whole = l.after(&image, &nothing(b"one"), 0).1.unwrap()[1];
-            let (stopped, _) = l.after(&image, &nothing(b"one"), whole - 1);
-            assert_eq!(l.counts(&stopped), Ok([0, 1024, 0]));
-            assert_eq!(l.after(&stopped, &nothing(b"two"), ALL).1, Err(28));
-            assert!(l.after(&stopped, &nothing(b"one"), ALL).1.is_ok());
-        },
-    ),
+    ("a name shown by a stopped append is an existing name", |l| {
+        let (stopped, _) = l.after(&fresh(l), &sheet_a(), 22);
+        let (after, stores) = l.after(&stopped, &sheet_a(), ALL);
+        assert_eq!(stores, Ok([22, 22]));
+        assert_eq!(l.listing(&after), "frames 1 names 1 entries 1\n0 0 9 3 1 384\n");
+        let mut image = many_names(1023);
+        image.resize(image.len() + 65_536, 0);
+        let whole = l.after(&image, &nothing(b"one"), 0).1.unwrap()[1];
+        let (stopped, _) = l.after(&image, &nothing(b"one"), whole - 1);
+        assert_eq!(l.counts(&stopped), Ok([0, 1024, 0]));
+        assert_eq!(l.after(&stopped, &nothing(b"two"), ALL).1, Err(28));
+        assert!(l.after(&stopped, &nothing(b"one"), ALL).1.is_ok());
+    }),
     ("old entries move byte for byte", |l| {
         let (mut image, _) = l.after(&fresh(l), &sheet_a(), ALL);
         image[256 + 31] = 0xA5;
@@ -786,41 +613,32 @@ pub const CASES: &[Case] = &[
             assert_eq!(l.counts(&image), Err(17));
         }
     }),
-    (
-        "create writes all of the header and keeps what lies behind",
-        |l| {
-            let mut image: Vec<u8> = (0..1024).map(|n| n as u8 | 1).collect();
-            let behind = image[384..].to_vec();
-            let request = Create {
-                application: b"regulator",
-                schema: b"night",
-                schema_version: 0x0001_0002,
-                slots: 2,
-                segments: 1,
-            };
-            assert_eq!(l.create(&mut image, request), 0);
-            let mut expected = blank(384, 256, 2, 320, 1);
-            put32(&mut expected, 40, 0x0001_0002);
-            expected[48..57].copy_from_slice(b"regulator");
-            expected[112..117].copy_from_slice(b"night");
-            assert_eq!(image[..384], expected);
-            assert_eq!(image[384..], behind);
-        },
-    ),
-    (
-        "an element's number is tested before it is multiplied",
-        |l| {
-            let sheet = sheet(&[Row::new(b"a", 4, 2, 1, &[9; 16])]);
-            let (image, _) = l.after(&fresh(l), &sheet, ALL);
-            assert_eq!(
-                l.nth_element(&image, 0, b"a", 1),
-                Ok([1, 0x0909_0909_0909_0909])
-            );
-            for k in [2, 1 << 61, 1 << 32, (1 << 61) + 1, ALL] {
-                assert_eq!(l.nth_element(&image, 0, b"a", k), Err(43));
-            }
-        },
-    ),
+    ("create writes all of the header and keeps what lies behind", |l| {
+        let mut image: Vec<u8> = (0..1024).map(|n| n as u8 | 1).collect();
+        let behind = image[384..].to_vec();
+        let request = Create {
+            application: b"regulator",
+            schema: b"night",
+            schema_version: 0x0001_0002,
+            slots: 2,
+            segments: 1,
+        };
+        assert_eq!(l.create(&mut image, request), 0);
+        let mut expected = blank(384, 256, 2, 320, 1);
+        put32(&mut expected, 40, 0x0001_0002);
+        expected[48..57].copy_from_slice(b"regulator");
+        expected[112..117].copy_from_slice(b"night");
+        assert_eq!(image[..384], expected);
+        assert_eq!(image[384..], behind);
+    }),
+    ("an element's number is tested before it is multiplied", |l| {
+        let sheet = sheet(&[Row::new(b"a", 4, 2, 1, &[9; 16])]);
+        let (image, _) = l.after(&fresh(l), &sheet, ALL);
+        assert_eq!(l.nth_element(&image, 0, b"a", 1), Ok([1, 0x0909_0909_0909_0909]));
+        for k in [2, 1 << 61, 1 << 32, (1 << 61) + 1, ALL] {
+            assert_eq!(l.nth_element(&image, 0, b"a", k), Err(43));
+        }
+    }),
     ("the magic starts with DF", |l| {
         let mut image = fresh(l);
         assert_eq!(image[..2], [0xDF, 0x65]);

@@ -15,11 +15,7 @@ pub fn names(directory: &Path) -> io::Result<Vec<String>> {
     for file in fs::read_dir(directory)? {
         let path = file?.path();
         if path.extension().is_some_and(|ending| ending == "gsd") {
-            names.extend(
-                path.file_stem()
-                    .and_then(|stem| stem.to_str())
-                    .map(String::from),
-            );
+            names.extend(path.file_stem().and_then(|stem| stem.to_str()).map(String::from));
         }
     }
     names.sort();
@@ -35,9 +31,7 @@ fn crc32(bytes: &[u8]) -> u32 {
 }
 
 fn hex(text: &str) -> Vec<u8> {
-    (0..text.len() / 2)
-        .map(|n| u8::from_str_radix(&text[2 * n..][..2], 16).unwrap())
-        .collect()
+    (0..text.len() / 2).map(|n| u8::from_str_radix(&text[2 * n..][..2], 16).unwrap()).collect()
 }
 
 /// Panics unless the library lists the file and reads its chunks as the real one does.
@@ -56,19 +50,14 @@ pub fn hold(library: &dyn Library, directory: &Path, name: &str) {
         let [frame, id, kind, n, m] = [0, 1, 2, 3, 4].map(|at| fields[at].parse::<u64>().unwrap());
         let (crc, chunk) = (u32::from_str_radix(fields[5], 16).unwrap(), hex(fields[6]));
         let entry = library.find(&image, frame, &chunk).unwrap();
-        assert_eq!(
-            [entry[0], entry[1], entry[3], entry[4], entry[5]],
-            [frame, n, m, id, kind]
-        );
+        assert_eq!([entry[0], entry[1], entry[3], entry[4], entry[5]], [frame, n, m, id, kind]);
         let bytes = library.bytes(&image, frame, &chunk).unwrap();
         assert_eq!(crc32(bytes), crc, "{name}: {line}");
         assert_eq!(library.nth_name(&image, id), Ok(&chunk[..]));
         // Element by element the same bytes: little-endian, sign-extended or not.
         let size = crate::images::size(kind as u8);
         for (k, expected) in bytes.chunks_exact(size).enumerate().take(1000) {
-            let [_, bits] = library
-                .nth_element(&image, frame, &chunk, k as u64)
-                .unwrap();
+            let [_, bits] = library.nth_element(&image, frame, &chunk, k as u64).unwrap();
             assert_eq!(&bits.to_le_bytes()[..size], expected);
         }
         assert_eq!(library.nth_element(&image, frame, &chunk, n * m), Err(43));
@@ -99,10 +88,7 @@ fn grow(library: &dyn Library, file: &[u8]) {
             let name = library.nth_name(&image, n).unwrap();
             assert_eq!(library.nth_name(&after, n), Ok(name));
             for frame in 0..frames.min(50) {
-                assert_eq!(
-                    library.bytes(&after, frame, name),
-                    library.bytes(&image, frame, name)
-                );
+                assert_eq!(library.bytes(&after, frame, name), library.bytes(&image, frame, name));
             }
         }
     }

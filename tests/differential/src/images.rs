@@ -62,15 +62,7 @@ pub struct Slot {
 impl Slot {
     /// N bytes of type u8.
     pub fn bytes(frame: u64, id: u16, location: u64, n: u64) -> Slot {
-        Slot {
-            frame,
-            n,
-            location,
-            m: 1,
-            id,
-            kind: 1,
-            flags: 0,
-        }
+        Slot { frame, n, location, m: 1, id, kind: 1, flags: 0 }
     }
 
     pub fn put(self, image: &mut [u8], at: usize) {
@@ -85,24 +77,8 @@ impl Slot {
 
     /// The numbers that a lookup answers.
     pub fn fields(self) -> [u64; 7] {
-        let Slot {
-            frame,
-            n,
-            location,
-            m,
-            id,
-            kind,
-            flags,
-        } = self;
-        [
-            frame,
-            n,
-            location,
-            m.into(),
-            id.into(),
-            kind.into(),
-            flags.into(),
-        ]
+        let Slot { frame, n, location, m, id, kind, flags } = self;
+        [frame, n, location, m.into(), id.into(), kind.into(), flags.into()]
     }
 }
 
@@ -124,13 +100,7 @@ pub struct Row {
 
 impl Row {
     pub fn new(name: &[u8], kind: u8, n: u64, m: u32, data: &[u8]) -> Row {
-        Row {
-            name: name.to_vec(),
-            kind,
-            n,
-            m,
-            data: data.to_vec(),
-        }
+        Row { name: name.to_vec(), kind, n, m, data: data.to_vec() }
     }
 
     /// One column of bytes.
@@ -155,8 +125,5 @@ pub fn sheet(rows: &[Row]) -> Vec<u8> {
 
 /// Bytes of an element of a type; 0 for an unknown one.
 pub fn size(kind: u8) -> usize {
-    [0, 1, 2, 4, 8, 1, 2, 4, 8, 4, 8]
-        .get(usize::from(kind))
-        .copied()
-        .unwrap_or(0)
+    [0, 1, 2, 4, 8, 1, 2, 4, 8, 4, 8].get(usize::from(kind)).copied().unwrap_or(0)
 }

@@ -46,38 +46,21 @@ fn give<const K: usize>(answer: Answer<[u64; K]>, out: &mut [u64; K]) -> u64 {
 }
 
 fn fields(e: Entry) -> [u64; 7] {
-    [
-        e.frame,
-        e.n,
-        e.location,
-        e.m.into(),
-        e.id.into(),
-        e.kind.into(),
-        e.flags.into(),
-    ]
+    [e.frame, e.n, e.location, e.m.into(), e.id.into(), e.kind.into(), e.flags.into()]
 }
 
 /// Start and length of a part of the image.
 fn place(image: &[u8], part: &[u8]) -> [u64; 2] {
-    [
-        (part.as_ptr().addr() - image.as_ptr().addr()) as u64,
-        part.len() as u64,
-    ]
+    [(part.as_ptr().addr() - image.as_ptr().addr()) as u64, part.len() as u64]
 }
 
 impl Library for Reference {
     fn open(&self, image: &[u8], out: &mut [u64; 3]) -> u64 {
-        give(
-            reference::open(image).map(|c| [c.frames, c.names, c.entries]),
-            out,
-        )
+        give(reference::open(image).map(|c| [c.frames, c.names, c.entries]), out)
     }
 
     fn name(&self, image: &[u8], n: u64, out: &mut [u64; 2]) -> u64 {
-        give(
-            reference::name(image, n).map(|part| place(image, part)),
-            out,
-        )
+        give(reference::name(image, n).map(|part| place(image, part)), out)
     }
 
     fn entry(&self, image: &[u8], n: u64, out: &mut [u64; 7]) -> u64 {
@@ -89,10 +72,7 @@ impl Library for Reference {
     }
 
     fn chunk(&self, image: &[u8], frame: u64, name: &[u8], out: &mut [u64; 2]) -> u64 {
-        give(
-            reference::chunk(image, frame, name).map(|part| place(image, part)),
-            out,
-        )
+        give(reference::chunk(image, frame, name).map(|part| place(image, part)), out)
     }
 
     fn element(&self, image: &[u8], frame: u64, name: &[u8], k: u64, out: &mut [u64; 2]) -> u64 {
@@ -106,13 +86,7 @@ impl Library for Reference {
     }
 
     fn create(&self, image: &mut [u8], request: Create) -> u64 {
-        let Create {
-            application,
-            schema,
-            schema_version,
-            slots,
-            segments,
-        } = request;
+        let Create { application, schema, schema_version, slots, segments } = request;
         reference::create(image, application, schema, schema_version, slots, segments)
             .err()
             .unwrap_or(0)
@@ -120,10 +94,7 @@ impl Library for Reference {
 
     fn append(&self, image: &mut [u8], sheet: &[u8], limit: u64, out: &mut [u64; 2]) -> u64 {
         *out = [0, 0];
-        give(
-            reference::append(image, sheet, limit).map(|s| [s.done, s.whole]),
-            out,
-        )
+        give(reference::append(image, sheet, limit).map(|s| [s.done, s.whole]), out)
     }
 }
 

@@ -231,10 +231,7 @@ impl<'a> Image<'a> {
     }
 
     fn id_of(&self, name: &[u8]) -> Option<u16> {
-        self.names
-            .iter()
-            .position(|&listed| listed == name)
-            .map(|id| id as u16)
+        self.names.iter().position(|&listed| listed == name).map(|id| id as u16)
     }
 
     fn lookup(&self, frame: u64, name: &[u8]) -> Answer<Entry> {
@@ -263,9 +260,7 @@ fn closed_names(block: &[u8]) -> Answer<(Vec<&[u8]>, usize)> {
     let mut names = Vec::with_capacity(16);
     let mut at = 0;
     while block.get(at).is_some_and(|&first| first != 0) {
-        let name = CStr::from_bytes_until_nul(&block[at..])
-            .map_err(|_| 9_u64)?
-            .to_bytes();
+        let name = CStr::from_bytes_until_nul(&block[at..]).map_err(|_| 9_u64)?.to_bytes();
         at += name.len() + 1;
         names.push(name);
     }
@@ -274,10 +269,7 @@ fn closed_names(block: &[u8]) -> Answer<(Vec<&[u8]>, usize)> {
 
 /// Pair by pair, as document 01 has it: best for the few names of most images.
 fn equal_pair(names: &[&[u8]]) -> bool {
-    names
-        .iter()
-        .enumerate()
-        .any(|(later, name)| names[..later].contains(name))
+    names.iter().enumerate().any(|(later, name)| names[..later].contains(name))
 }
 
 fn equal_in_table(names: &[&[u8]]) -> bool {
@@ -297,19 +289,12 @@ pub fn open_with_table(image: &[u8]) -> Answer<Counts> {
 /// The n-th name, as a part of the image.
 pub fn name(image: &[u8], n: u64) -> Answer<&[u8]> {
     let image = Image::open(image)?;
-    usize::try_from(n)
-        .ok()
-        .and_then(|n| image.names.get(n).copied())
-        .ok_or(44)
+    usize::try_from(n).ok().and_then(|n| image.names.get(n).copied()).ok_or(44)
 }
 
 pub fn entry(image: &[u8], n: u64) -> Answer<Entry> {
     let image = Image::open(image)?;
-    usize::try_from(n)
-        .ok()
-        .and_then(|n| image.entries.get(n))
-        .map(Entry::read)
-        .ok_or(44)
+    usize::try_from(n).ok().and_then(|n| image.entries.get(n)).map(Entry::read).ok_or(44)
 }
 
 pub fn lookup(image: &[u8], frame: u64, name: &[u8]) -> Answer<Entry> {
@@ -362,10 +347,7 @@ pub fn create(
     if slots > MOST_UNITS || segments > MOST_UNITS {
         return Err(50);
     }
-    if [application, schema]
-        .iter()
-        .any(|text| text.len() > 63 || text.contains(&0))
-    {
+    if [application, schema].iter().any(|text| text.len() > 63 || text.contains(&0)) {
         return Err(51);
     }
     let slots = if slots == 0 { 64 } else { slots };
@@ -403,28 +385,17 @@ fn rows(sheet: &[u8]) -> Answer<Vec<Row<'_>>> {
     }
     let (table, mut bodies) = rest.split_at_checked(16 * count).ok_or(23_u64)?;
     let (table, _) = table.as_chunks::<16>();
-    if table
-        .iter()
-        .any(|row| size_of(row[12]).is_none() || row[13] == 0 || row[14..] != [0, 0])
-    {
+    if table.iter().any(|row| size_of(row[12]).is_none() || row[13] == 0 || row[14..] != [0, 0]) {
         return Err(24);
     }
     let mut rows = Vec::with_capacity(count);
     for row in table {
         let (n, m, kind) = (u64_at(row, 0), u32_at(row, 8), row[12]);
-        let length = size_of(kind)
-            .and_then(|size| bytes_of(n, m, size))
-            .ok_or(25_u64)?;
+        let length = size_of(kind).and_then(|size| bytes_of(n, m, size)).ok_or(25_u64)?;
         let (name, rest) = bodies.split_at_checked(row[13].into()).ok_or(25_u64)?;
         let length = usize::try_from(length).map_err(|_| 25_u64)?;
         let (data, rest) = rest.split_at_checked(length).ok_or(25_u64)?;
-        rows.push(Row {
-            n,
-            m,
-            kind,
-            name,
-            data,
-        });
+        rows.push(Row { n, m, kind, name, data });
         bodies = rest;
     }
     if !bodies.is_empty() {
@@ -464,11 +435,7 @@ fn moved(old: Block, unit: usize, needed: usize, start: usize) -> Option<Block> 
         while unit * count < needed {
             count *= 2;
         }
-        Block {
-            start,
-            end: start + unit * count,
-            count,
-        }
+        Block { start, end: start + unit * count, count }
     })
 }
 
@@ -565,10 +532,7 @@ impl<'s> Plan<'s> {
                 kind: row.kind,
                 flags: 0,
             };
-            to.entry(
-                index.start + SLOT * (self.entries + place),
-                entry.to_bytes(),
-            );
+            to.entry(index.start + SLOT * (self.entries + place), entry.to_bytes());
         }
     }
 }
@@ -646,15 +610,8 @@ impl Writer<'_> {
 
 pub fn append(image: &mut [u8], sheet: &[u8], limit: u64) -> Answer<Stores> {
     let plan = Plan::new(image, sheet)?;
-    let mut writer = Writer {
-        image,
-        limit,
-        whole: 0,
-    };
+    let mut writer = Writer { image, limit, whole: 0 };
     plan.store(&mut writer);
     let whole = writer.whole;
-    Ok(Stores {
-        done: limit.min(whole),
-        whole,
-    })
+    Ok(Stores { done: limit.min(whole), whole })
 }
