@@ -71,7 +71,7 @@ fn grow(library: &dyn Library, file: &[u8]) {
     image.resize(file.len().next_multiple_of(8) + 65_536, 0xA5);
     let sheet = crate::cases::sheet_b();
     let stores = library.after(&image, &sheet, 0).1;
-    let aligned = [8, 24].iter().all(|&at| get64(&image, at) % 8 == 0);
+    let aligned = [8, 24].iter().all(|&at| get64(&image, at).is_multiple_of(8));
     let Ok([_, whole]) = stores else {
         assert!(stores == Err(21) && !aligned);
         return;

@@ -60,7 +60,7 @@ pub fn fresh(rng: &mut Rng) -> Vec<u8> {
     let request = Create {
         application: &texts[0],
         schema: &texts[1],
-        schema_version: rng.next() as u32,
+        schema_version: rng.number() as u32,
         slots: slots as u64,
         segments: segments as u64,
     };
@@ -75,7 +75,7 @@ fn shape(rng: &mut Rng, room: usize) -> (u64, u32, u8) {
     match rng.below(12) {
         // Honestly empty, however large the other number is.
         0 => (rng.border(), 0, kind),
-        1 => (0, rng.next() as u32, kind),
+        1 => (0, rng.number() as u32, kind),
         2 => (0, 1, kind),
         _ => (rng.below(room / (size(kind) * columns) + 1) as u64, columns as u32, kind),
     }

@@ -104,7 +104,7 @@ fn create(check: &mut Check, rng: &mut Rng) {
         _ => need as usize + rng.below(200),
     };
     check.load(&rng.bytes(length));
-    let schema_version = rng.next() as u32;
+    let schema_version = rng.number() as u32;
     let request =
         Create { application: &application, schema: &schema, schema_version, slots, segments };
     if check.create(request).is_some() {
@@ -147,7 +147,7 @@ fn runs(check: &mut Check, rng: &mut Rng) {
             known.dedup();
             if rng.chance(30) {
                 // Again, after the stop, and from its middle.
-                check.append(&sheet(&rows), rng.next() % (whole + 1));
+                check.append(&sheet(&rows), rng.number() % (whole + 1));
             }
         }
         known.truncate(12);
@@ -218,7 +218,7 @@ fn random_bytes(check: &mut Check, rng: &mut Rng) {
     let repaired = rng.below(6);
     if length >= 256 && repaired > 0 {
         image[..8].copy_from_slice(&MAGIC);
-        put32(&mut image, 44, if repaired > 1 { 0x0002_0000 } else { rng.next() as u32 });
+        put32(&mut image, 44, if repaired > 1 { 0x0002_0000 } else { rng.number() as u32 });
         if repaired > 2 {
             for (at, unit) in [(8, 32), (24, 64)] {
                 put64(&mut image, at, rng.below(length + 64) as u64);
@@ -312,7 +312,7 @@ fn many_rows(check: &mut Check, rng: &mut Rng) {
         }
         let sheet = sheet(&rows);
         if let Some([_, whole]) = check.append(&sheet, 0) {
-            check.append(&sheet, rng.next() % whole);
+            check.append(&sheet, rng.number() % whole);
             check.append(&sheet, u64::MAX);
         }
         check.open();

@@ -414,7 +414,7 @@ impl Model {
     fn stores(&self, image: &[u8], sheet: &[u8]) -> Verdict<Vec<Store>> {
         let view = self.view(image)?;
         let odd = |place: u128, count: u128| {
-            place % 8 != 0 && !(self.has(Fault::EmptyBlocksMayBeOdd) && count == 0)
+            !place.is_multiple_of(8) && !(self.has(Fault::EmptyBlocksMayBeOdd) && count == 0)
         };
         if odd(view.index, view.slots) || odd(view.names_at, view.segments) {
             return Err(21);

@@ -38,7 +38,7 @@ impl Rng {
         Rng(seed)
     }
 
-    pub fn next(&mut self) -> u64 {
+    pub fn number(&mut self) -> u64 {
         self.0 = self.0.wrapping_add(0x9E37_79B9_7F4A_7C15);
         let mut z = self.0;
         z = (z ^ (z >> 30)).wrapping_mul(0xBF58_476D_1CE4_E5B9);
@@ -48,7 +48,7 @@ impl Rng {
 
     /// A number below `bound`, which is not 0.
     pub fn below(&mut self, bound: usize) -> usize {
-        (self.next() % bound as u64) as usize
+        (self.number() % bound as u64) as usize
     }
 
     /// A number from `low` to `high`, both included.
@@ -65,12 +65,12 @@ impl Rng {
     }
 
     pub fn byte(&mut self) -> u8 {
-        self.next() as u8
+        self.number() as u8
     }
 
     pub fn fill(&mut self, bytes: &mut [u8]) {
         for part in bytes.chunks_mut(8) {
-            let word = self.next().to_le_bytes();
+            let word = self.number().to_le_bytes();
             part.copy_from_slice(&word[..part.len()]);
         }
     }
@@ -85,9 +85,9 @@ impl Rng {
     pub fn border(&mut self) -> u64 {
         match self.below(4) {
             0 => self.pick(&BORDERS),
-            1 => self.pick(&BORDERS).wrapping_add(self.next() % 64),
-            2 => self.pick(&BORDERS).wrapping_sub(self.next() % 64),
-            _ => self.next() >> self.below(64),
+            1 => self.pick(&BORDERS).wrapping_add(self.number() % 64),
+            2 => self.pick(&BORDERS).wrapping_sub(self.number() % 64),
+            _ => self.number() >> self.below(64),
         }
     }
 }

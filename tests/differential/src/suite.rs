@@ -52,7 +52,7 @@ impl Totals {
 pub fn rng(seed: u64, group: usize, round: u64) -> Rng {
     let mut mixed = Rng::new(seed);
     for part in [group as u64, round] {
-        mixed = Rng::new(mixed.next() ^ part);
+        mixed = Rng::new(mixed.number() ^ part);
     }
     mixed
 }
