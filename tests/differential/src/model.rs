@@ -414,7 +414,8 @@ impl Model {
     fn stores(&self, image: &[u8], sheet: &[u8]) -> Verdict<Vec<Store>> {
         let view = self.view(image)?;
         let odd = |place: u128, count: u128| {
-            !place.is_multiple_of(8) && !(self.has(Fault::EmptyBlocksMayBeOdd) && count == 0)
+            let excused = self.has(Fault::EmptyBlocksMayBeOdd) && count == 0;
+            !place.is_multiple_of(8) && !excused
         };
         if odd(view.index, view.slots) || odd(view.names_at, view.segments) {
             return Err(21);
