@@ -8,6 +8,20 @@ use std::fmt::Write;
 /// What an `out` array holds before a call, so that one left alone shows.
 const BEFORE: u64 = 0x0BAD_CAFE_0BAD_CAFE;
 
+/// An `out` array between numbers that no call may touch.
+#[repr(C)]
+struct Out<const K: usize> {
+    front: [u64; 2],
+    numbers: [u64; K],
+    behind: [u64; 2],
+}
+
+impl<const K: usize> Out<K> {
+    fn new() -> Out<K> {
+        Out { front: [BEFORE; 2], numbers: [BEFORE; K], behind: [BEFORE; 2] }
+    }
+}
+
 /// So many failures of a test are printed whole; the others are counted.
 const SHOWN: u64 = 3;
 
@@ -72,18 +86,21 @@ impl<'l> Check<'l> {
     /// Compares what both answered, and gives the plain implementation's answer; `None` is a refusal.
     fn judge<const K: usize>(
         &mut self,
-        theirs: (u64, [u64; K]),
-        ours: (u64, [u64; K]),
+        (number, theirs): (u64, Out<K>),
+        (expected, ours): (u64, Out<K>),
         call: impl FnOnce() -> String,
     ) -> Option<[u64; K]> {
         self.comparisons += 1;
-        self.met[ours.0 as usize] += 1;
-        if theirs != ours {
+        self.met[expected as usize] += 1;
+        let strayed = [theirs.front, theirs.behind] != [[BEFORE; 2]; 2];
+        let (theirs, ours) = ((number, theirs.numbers), (expected, ours.numbers));
+        if theirs != ours || strayed {
             let said = |(number, out): (u64, [u64; K])| format!("{number} {out:?}");
             let image = hex(&self.ours);
             self.fail(|| {
-                let (theirs, ours) = (said(theirs), said(ours));
-                format!("{}\n  answers  {theirs}\n  expected {ours}\n  image {image}", call())
+                let (call, theirs, ours) = (call(), said(theirs), said(ours));
+                let stray = if strayed { ", and wrote beside out" } else { "" };
+                format!("{call}\n  answers  {theirs}{stray}\n  expected {ours}\n  image {image}")
             });
         }
         (ours.0 == 0).then_some(ours.1)
@@ -97,49 +114,61 @@ impl<'l> Check<'l> {
     }
 
     pub fn open(&mut self) -> Option<[u64; 3]> {
-        let (mut theirs, mut ours) = ([BEFORE; 3], [BEFORE; 3]);
-        let number = self.library.open(self.theirs.bytes(), &mut theirs);
-        let expected = Reference.open(&self.ours, &mut ours);
+        let (mut theirs, mut ours) = (Out::<3>::new(), Out::new());
+        let number = self.library.open(self.theirs.bytes(), &mut theirs.numbers);
+        let expected = Reference.open(&self.ours, &mut ours.numbers);
         self.judge((number, theirs), (expected, ours), || "open".into())
     }
 
     pub fn name(&mut self, n: u64) -> Option<[u64; 2]> {
-        let (mut theirs, mut ours) = ([BEFORE; 2], [BEFORE; 2]);
-        let number = self.library.name(self.theirs.bytes(), n, &mut theirs);
-        let expected = Reference.name(&self.ours, n, &mut ours);
+        let (mut theirs, mut ours) = (Out::<2>::new(), Out::new());
+        let number = self.library.name(self.theirs.bytes(), n, &mut theirs.numbers);
+        let expected = Reference.name(&self.ours, n, &mut ours.numbers);
         self.judge((number, theirs), (expected, ours), || format!("name {n}"))
     }
 
     pub fn entry(&mut self, n: u64) -> Option<[u64; 7]> {
-        let (mut theirs, mut ours) = ([BEFORE; 7], [BEFORE; 7]);
-        let number = self.library.entry(self.theirs.bytes(), n, &mut theirs);
-        let expected = Reference.entry(&self.ours, n, &mut ours);
+        let (mut theirs, mut ours) = (Out::<7>::new(), Out::new());
+        let number = self.library.entry(self.theirs.bytes(), n, &mut theirs.numbers);
+        let expected = Reference.entry(&self.ours, n, &mut ours.numbers);
         self.judge((number, theirs), (expected, ours), || format!("entry {n}"))
     }
 
     pub fn lookup(&mut self, frame: u64, name: &[u8]) -> Option<[u64; 7]> {
-        let (mut theirs, mut ours) = ([BEFORE; 7], [BEFORE; 7]);
+        let (mut theirs, mut ours) = (Out::<7>::new(), Out::new());
         let lent = self.argument.lend(name, self.flush);
-        let number = self.library.lookup(self.theirs.bytes(), frame, lent, &mut theirs);
-        let expected = Reference.lookup(&self.ours, frame, name, &mut ours);
+        let number = self.library.lookup(self.theirs.bytes(), frame, lent, &mut theirs.numbers);
+        let expected = Reference.lookup(&self.ours, frame, name, &mut ours.numbers);
         let call = || format!("lookup frame {frame} name {}", hex(name));
         self.judge((number, theirs), (expected, ours), call)
     }
 
+    /// A lookup whose name is a part of the image itself, as a caller has it from the n-th name.
+    pub fn lookup_listed(&mut self, frame: u64, [start, length]: [u64; 2]) -> Option<[u64; 7]> {
+        let (mut theirs, mut ours) = (Out::<7>::new(), Out::new());
+        let name = start as usize..(start + length) as usize;
+        let image = self.theirs.bytes();
+        let number = self.library.lookup(image, frame, &image[name.clone()], &mut theirs.numbers);
+        let image = &self.ours;
+        let expected = Reference.lookup(image, frame, &image[name.clone()], &mut ours.numbers);
+        let call = || format!("lookup frame {frame} name at {name:?}");
+        self.judge((number, theirs), (expected, ours), call)
+    }
+
     pub fn chunk(&mut self, frame: u64, name: &[u8]) -> Option<[u64; 2]> {
-        let (mut theirs, mut ours) = ([BEFORE; 2], [BEFORE; 2]);
+        let (mut theirs, mut ours) = (Out::<2>::new(), Out::new());
         let lent = self.argument.lend(name, self.flush);
-        let number = self.library.chunk(self.theirs.bytes(), frame, lent, &mut theirs);
-        let expected = Reference.chunk(&self.ours, frame, name, &mut ours);
+        let number = self.library.chunk(self.theirs.bytes(), frame, lent, &mut theirs.numbers);
+        let expected = Reference.chunk(&self.ours, frame, name, &mut ours.numbers);
         let call = || format!("chunk frame {frame} name {}", hex(name));
         self.judge((number, theirs), (expected, ours), call)
     }
 
     pub fn element(&mut self, frame: u64, name: &[u8], k: u64) -> Option<[u64; 2]> {
-        let (mut theirs, mut ours) = ([BEFORE; 2], [BEFORE; 2]);
+        let (mut theirs, mut ours) = (Out::<2>::new(), Out::new());
         let lent = self.argument.lend(name, self.flush);
-        let number = self.library.element(self.theirs.bytes(), frame, lent, k, &mut theirs);
-        let expected = Reference.element(&self.ours, frame, name, k, &mut ours);
+        let number = self.library.element(self.theirs.bytes(), frame, lent, k, &mut theirs.numbers);
+        let expected = Reference.element(&self.ours, frame, name, k, &mut ours.numbers);
         let call = || format!("element frame {frame} name {} k {k}", hex(name));
         self.judge((number, theirs), (expected, ours), call)
     }
@@ -149,20 +178,20 @@ impl<'l> Check<'l> {
         let number = self.library.create(self.theirs.bytes_mut(), request);
         let expected = Reference.create(&mut self.ours, request);
         let call = || format!("create {request:?}");
-        let answer = self.judge((number, []), (expected, []), call);
+        let answer = self.judge((number, Out::<0>::new()), (expected, Out::new()), call);
         self.judge_bytes(call);
         answer
     }
 
     pub fn append(&mut self, sheet: &[u8], limit: u64) -> Option<[u64; 2]> {
-        let (mut theirs, mut ours) = ([BEFORE; 2], [BEFORE; 2]);
+        let (mut theirs, mut ours) = (Out::<2>::new(), Out::new());
         self.before.clone_from(&self.ours);
         let lent = self.argument.lend(sheet, self.flush);
-        let number = self.library.append(self.theirs.bytes_mut(), lent, limit, &mut theirs);
+        let number = self.library.append(self.theirs.bytes_mut(), lent, limit, &mut theirs.numbers);
         if self.argument.bytes() != sheet || !self.argument.margin_kept() {
             self.fail(|| "append wrote the sheet".into());
         }
-        let expected = Reference.append(&mut self.ours, sheet, limit, &mut ours);
+        let expected = Reference.append(&mut self.ours, sheet, limit, &mut ours.numbers);
         let call = || format!("append limit {limit} sheet {}", hex(sheet));
         let answer = self.judge((number, theirs), (expected, ours), call);
         self.judge_bytes(call);
@@ -190,7 +219,9 @@ impl<'l> Check<'l> {
     pub fn read_all(&mut self, names: &[Vec<u8>]) {
         let [frames, listed, entries] = self.open().unwrap_or([0; 3]);
         for n in (0..=listed).chain([u64::MAX]) {
-            self.name(n);
+            if let Some(place) = self.name(n) {
+                self.lookup_listed(frames.saturating_sub(1), place);
+            }
         }
         for n in (0..=entries).chain([u64::MAX]) {
             self.entry(n);

@@ -31,6 +31,7 @@ pub const GROUPS: &[Group] = &[
     group("damaged sheets", 40_000, sheets),
     group("many names", 60, many_names),
     group("many rows", 200, many_rows),
+    group("a night of appends", 20, night),
     group("a long index", 10, long_index),
     group("the longest slices", 1, longest),
     group("a run of appends, word for word", 1000, demand3),
@@ -310,6 +311,9 @@ fn many_rows(check: &mut Check, rng: &mut Rng) {
             let (a, b) = (rng.below(count), rng.below(count));
             rows.swap(a, b);
         }
+        // One of them large.
+        let length = rng.below(20_000);
+        rows[0] = Row::bytes(b"large", &rng.bytes(length));
         let sheet = sheet(&rows);
         if let Some([_, whole]) = check.append(&sheet, 0) {
             check.append(&sheet, rng.number() % whole);
@@ -323,6 +327,26 @@ fn many_rows(check: &mut Check, rng: &mut Rng) {
         for row in rows.iter().take(10) {
             check.read(0, &row.name);
             check.read(1, &row.name);
+        }
+    }
+}
+
+/// Appends in turn to one image, whole and stopped, until it is full: blocks move again and again.
+fn night(check: &mut Check, rng: &mut Rng) {
+    let room = rng.between(20_000, 60_000);
+    check.load(&Vec::from_iter(generate::fresh(rng).into_iter().chain(rng.bytes(room))));
+    let known = generate::names(rng, 10);
+    let mut full = 0;
+    while full < 5 {
+        let rows = generate::rows(rng, &known);
+        let limit = if rng.chance(80) { u64::MAX } else { generate::limit(rng) };
+        if check.append(&sheet(&rows), limit).is_none() {
+            full += 1;
+        }
+        if let Some([frames, ..]) = check.open() {
+            let frame = rng.below(frames as usize + 1) as u64;
+            check.read(frame, &known[rng.below(known.len())]);
+            check.entry(rng.number() % 1000);
         }
     }
 }
@@ -362,6 +386,8 @@ fn long_index(check: &mut Check, rng: &mut Rng) {
 /// they are not copied, and the bytes around what is stored are compared.
 fn longest(check: &mut Check, _: &mut Rng) {
     const LONGEST: usize = 1 << 30;
+    /// More than create writes.
+    const HEAD: usize = 7 << 20;
     let library = check.library();
     let mut pair = [vec![0; LONGEST + 1], vec![0; LONGEST + 1]];
     let [theirs, ours] = &mut pair;
@@ -384,6 +410,9 @@ fn longest(check: &mut Check, _: &mut Rng) {
         let a = library.create(theirs, request);
         let b = Reference.create(ours, request);
         both(check, "create", (a, [0; 2]), (b, [0; 2]));
+        if theirs[..HEAD] != ours[..HEAD] {
+            check.fail(|| "create on a long slice: other bytes".into());
+        }
         for image in [&mut *theirs, &mut *ours] {
             // Both blocks near the end, a chunk up to it, an entry from far below.
             crate::images::header(image, index as u64, 4, names as u64, 1);
@@ -410,7 +439,7 @@ fn longest(check: &mut Check, _: &mut Rng) {
             let a = library.append(theirs, sheet, limit, &mut x);
             let b = Reference.append(ours, sheet, limit, &mut y);
             both(check, "append", (a, x), (b, y));
-            if theirs[..8192] != ours[..8192] || theirs[index - 64..] != ours[index - 64..] {
+            if theirs[..HEAD] != ours[..HEAD] || theirs[index - 64..] != ours[index - 64..] {
                 check.fail(|| "append on a long slice: other bytes".into());
             }
         }

@@ -63,10 +63,12 @@ fn u64_at(bytes: &[u8], at: usize) -> u64 {
 
 /// Bytes of one element, for types 1 to 10.
 fn size_of(kind: u8) -> Option<u64> {
-    const SIZES: [u64; 11] = [0, 1, 2, 4, 8, 1, 2, 4, 8, 4, 8];
-    match SIZES.get(usize::from(kind)) {
-        Some(0) | None => None,
-        size => size.copied(),
+    match kind {
+        1 | 5 => Some(1),
+        2 | 6 => Some(2),
+        3 | 7 | 9 => Some(4),
+        4 | 8 | 10 => Some(8),
+        _ => None,
     }
 }
 
@@ -120,9 +122,9 @@ impl Block {
         })
     }
 
-    /// Whether a byte of `start..end` lies in this block; nothing has none.
-    fn shares(self, start: usize, end: usize) -> bool {
-        self.start.max(start) < self.end.min(end)
+    /// Whether this block and `start..end` share a byte, where both have one at all.
+    fn meets(self, start: usize, end: usize) -> bool {
+        start < self.end && self.start < end
     }
 }
 
@@ -163,7 +165,8 @@ impl<'a> Image<'a> {
         }
         let index = Block::read(bytes, 8, SLOT).ok_or(6_u64)?;
         let names_block = Block::read(bytes, 24, SEGMENT).ok_or(7_u64)?;
-        if index.shares(names_block.start, names_block.end) {
+        let both = index.count > 0 && names_block.count > 0;
+        if both && index.meets(names_block.start, names_block.end) {
             return Err(8);
         }
 
@@ -201,8 +204,10 @@ impl<'a> Image<'a> {
                 .and_then(|length| length.checked_add(entry.location))
                 .filter(|&end| end <= bytes.len() as u64)
                 .ok_or(16_u64)? as usize;
+            // Both blocks have bytes: one holds this entry, the other its name.
             let location = entry.location as usize;
-            if index.shares(location, chunk_end) || names_block.shares(location, chunk_end) {
+            let meets = index.meets(location, chunk_end) || names_block.meets(location, chunk_end);
+            if meets && location < chunk_end {
                 return Err(17);
             }
             end = end.max(chunk_end);
