@@ -140,7 +140,7 @@ uint64_t dialmoth_create(uint8_t *image, size_t image_length,
  * The frame is there once the last store is made, and not before: after a stop
  * every older frame reads as it did, and the same append may be made again.
  * out: stores done, stores of the whole append. The frame is there exactly when
- * they are equal.
+ * the answer is 0 and they are equal.
  *
  * A sheet is a table, then the bodies, numbers little-endian, nothing between:
  *   u32 count, 1 to 64;

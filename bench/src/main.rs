@@ -1,7 +1,7 @@
 //! Times the library beside the plain Rust implementation, in one run on one machine.
 //!
-//!   bench images FOLDER     writes the images that the real GSD library is timed on
-//!   bench table [FILE]      prints a table; FILE has the real library's times, a line "key µs" each
+//!   bench images FOLDER   writes the images that the real GSD library is timed on
+//!   bench table [FILE]    prints a table; FILE has the real library's times, lines "key µs"
 
 mod work;
 
@@ -12,43 +12,52 @@ use std::hint::black_box;
 use std::path::Path;
 use std::time::{Duration, Instant};
 use std::{env, fs, process};
-use work::Day;
+use work::{Day, Large};
 
-/// For each row so long, with both sides in turn.
+/// So long for each row, both sides in turn; three times as long for work in parts.
 const TIME: Duration = Duration::from_millis(2500);
 
-/// The best time of each side. `prepare` is not timed, and each side goes first as often as the
-/// others.
+/// What one side does, given the number of the part.
+type Side<'a, S> = &'a mut dyn FnMut(&mut S, usize);
+
+/// The best time of each side. Work in parts has the sum of each part's best: no machine leaves
+/// work of many milliseconds alone. `prepare` goes before the first part and is not timed. Each
+/// side goes first as often as the others.
 fn best<S>(
     state: &mut S,
     mut prepare: impl FnMut(&mut S),
-    sides: &mut [&mut dyn FnMut(&mut S)],
+    parts: usize,
+    sides: &mut [Side<S>],
 ) -> Vec<Duration> {
-    let mut best = vec![Duration::MAX; sides.len()];
-    let start = Instant::now();
+    let mut best = vec![vec![Duration::MAX; parts]; sides.len()];
     // Calls that are short beside the clock's own time are timed many at a time.
     let mut calls = 1;
+    let time = if parts > 1 { 3 * TIME } else { TIME };
+    let start = Instant::now();
     for round in 0.. {
         for turn in 0..sides.len() {
             let side = (round + turn) % sides.len();
             prepare(state);
-            let begin = Instant::now();
-            for _ in 0..calls {
-                sides[side](state);
-            }
-            let time = begin.elapsed();
-            if time < Duration::from_micros(20) && calls < 1000 {
-                calls *= 2;
-                best.fill(Duration::MAX);
-            } else {
-                best[side] = best[side].min(time / calls);
+            for part in 0..parts {
+                let begin = Instant::now();
+                for _ in 0..calls {
+                    sides[side](state, part);
+                }
+                let time = begin.elapsed();
+                if parts == 1 && calls < 1000 && time < Duration::from_micros(20) {
+                    calls *= 2;
+                    best.iter_mut().for_each(|best| best.fill(Duration::MAX));
+                } else {
+                    best[side][part] = best[side][part].min(time / calls);
+                }
             }
         }
-        if start.elapsed() > TIME && !best.contains(&Duration::MAX) {
+        let all = best.iter().flatten().all(|&time| time < Duration::MAX);
+        if all && start.elapsed() > time {
             break;
         }
     }
-    best
+    best.iter().map(|parts| parts.iter().sum()).collect()
 }
 
 fn time_text(time: Duration) -> String {
@@ -60,11 +69,13 @@ fn time_text(time: Duration) -> String {
     }
 }
 
-struct Table {
+struct Table<'l> {
+    library: &'l dyn Library,
+    /// The real library's times in microseconds.
     real: HashMap<String, f64>,
 }
 
-impl Table {
+impl Table<'_> {
     fn row(&self, what: &str, library: Duration, other: Duration, key: &str) {
         let ratio = library.as_secs_f64() / other.as_secs_f64();
         let real = match self.real.get(key) {
@@ -75,17 +86,26 @@ impl Table {
         println!("| {what} | {library} | {other} | {ratio:.2} | {real} |");
     }
 
-    /// A reading call, on both sides.
-    fn reading(
+    /// The same work for both sides, as a row; answers the library's time.
+    fn both<S>(
         &self,
-        library: &dyn Library,
         what: &str,
         key: &str,
-        call: impl Fn(&dyn Library),
+        state: &mut S,
+        prepare: impl FnMut(&mut S),
+        parts: usize,
+        work: impl Fn(&mut S, &dyn Library, usize),
     ) -> Duration {
-        let times = best(&mut (), |_| {}, &mut [&mut |_| call(library), &mut |_| call(&Reference)]);
+        let library = &mut |state: &mut S, part| work(state, self.library, part);
+        let plain = &mut |state: &mut S, part| work(state, &Reference, part);
+        let times = best(state, prepare, parts, &mut [library, plain]);
         self.row(what, times[0], times[1], key);
         times[0]
+    }
+
+    /// A reading call.
+    fn reading(&self, what: &str, key: &str, call: impl Fn(&dyn Library)) -> Duration {
+        self.both(what, key, &mut (), |_| {}, 1, |_, library, _| call(library))
     }
 }
 
@@ -105,71 +125,65 @@ fn open(library: &dyn Library, image: &[u8]) {
     black_box(out);
 }
 
+fn lookup(library: &dyn Library, image: &[u8], frame: u64) {
+    let mut out = [0; 7];
+    assert_eq!(library.lookup(black_box(image), frame, b"heater", &mut out), 0);
+    black_box(out);
+}
+
+fn element(library: &dyn Library, image: &[u8], frame: u64) {
+    let mut out = [0; 2];
+    assert_eq!(library.element(black_box(image), frame, b"probe", 2, &mut out), 0);
+    black_box(out);
+}
+
 fn table(real: HashMap<String, f64>) {
     let (library, title) = library();
     let gsd = if real.is_empty() { "real GSD" } else { "gsd.fl" };
-    println!("Library: {title}. Best times, both sides in turn.\n");
+    println!("Library: {title}. Best times of many, both sides in turn.\n");
     println!("| | library | plain Rust | ratio | {gsd} |");
     println!("|---|---|---|---|---|");
-    let table = Table { real };
+    let table = Table { library, real };
 
     let month = work::month();
-    table.reading(library, "open, 40,000 entries, 16 names", "open_month", |l| open(l, &month));
+    table.reading("open, 40,000 entries, 16 names", "open_month", |l| open(l, &month));
 
     let names = work::names();
-    let pairs = table.reading(library, "open, 1,024 names", "open_names", |l| open(l, &names));
-    let hashed = &mut |_: &mut ()| {
+    let pairs = table.reading("open, 1,024 names", "open_names", |l| open(l, &names));
+    let hashed = &mut |_: &mut (), _| {
         black_box(reference::open_with_table(black_box(&names)).unwrap());
     };
-    let times = best(&mut (), |_| {}, &mut [hashed]);
+    let times = best(&mut (), |_| {}, 1, &mut [hashed]);
     table.row("open, 1,024 names, beside a hash table for the pairs", pairs, times[0], "");
 
-    let mut day = Day::new();
-    day.append_all(&Reference);
-    let lookup = |l: &dyn Library, image: &[u8], frame: u64| {
-        let mut out = [0; 7];
-        assert_eq!(l.lookup(black_box(image), frame, b"heater", &mut out), 0);
-        black_box(out);
-    };
-    let small = work::small();
-    table.reading(library, "lookup, 24 entries", "", |l| lookup(l, &small, 4));
-    table.reading(library, "lookup, 4,320 entries", "", |l| lookup(l, &day.image, 700));
-    table.reading(library, "element, 4,320 entries", "", |l| {
-        let mut out = [0; 2];
-        assert_eq!(l.element(black_box(&day.image), 700, b"probe", 2, &mut out), 0);
-        black_box(out);
-    });
-    table.reading(library, "all 4,320 chunks of a day", "read_day", |l| day.read_all(l));
+    let (small, mut day) = (work::small(), Day::new());
+    table.reading("lookup, 24 entries", "", |l| lookup(l, &small, 4));
+    table.reading("lookup, 4,320 entries", "", |l| lookup(l, &day.image, 700));
+    table.reading("element, 4,320 entries", "", |l| element(l, &day.image, 700));
+    let what = "all 4,320 chunks of a day";
+    table.both(what, "read_day", &mut day, |_| {}, work::FRAMES, |day, l, n| day.read(l, n));
+    let what = "append 1,440 frames of 3 chunks in turn";
+    table
+        .both(what, "append_day", &mut day, Day::clear, work::FRAMES, |day, l, n| day.append(l, n));
 
-    let times = best(
-        &mut day,
-        Day::clear,
-        &mut [&mut |day| day.append_all(library), &mut |day| day.append_all(&Reference)],
-    );
-    table.row("append 1,440 frames of 3 chunks in turn", times[0], times[1], "append_day");
-
-    let mut large = work::Large::new();
-    let times = best(
-        &mut large,
-        work::Large::restore,
-        &mut [
-            &mut |large| large.append(library),
-            &mut |large| large.append(&Reference),
-            &mut |large| large.copy(),
-        ],
-    );
+    let mut large = Large::new();
+    let sides: &mut [Side<Large>] = &mut [
+        &mut |large, _| large.append(library),
+        &mut |large, _| large.append(&Reference),
+        &mut |large, _| large.copy(),
+    ];
+    let times = best(&mut large, Large::restore, 1, sides);
     table.row("append one chunk of 1 MiB", times[0], times[1], "append_large");
     table.row("append one chunk of 1 MiB, beside memcpy", times[0], times[2], "");
 
     println!();
     println!("Every call opens its image first: a lookup among 4,320 entries reads them all.");
+    println!("A day's time is the sum of each frame's best; its appends begin with create.");
     println!(
         "Buffers: reading calls find image and caches warm. The day's image is cleared before"
     );
-    println!(
-        "each run of 1,440 appends, untimed; the run begins with create. The 1 MiB chunk goes"
-    );
-    println!("to memory written before and not cleared; header and blocks are restored, untimed.");
+    println!("each run of 1,440 appends, untimed. The 1 MiB chunk goes to memory written before");
+    println!("and not cleared; header and blocks are restored, untimed.");
     if !table.real.is_empty() {
         println!("gsd.fl works on files, from Python, and writes them by the system's calls.");
     }
@@ -180,9 +194,8 @@ fn main() {
     let words: Vec<&str> = words.iter().map(String::as_str).collect();
     match words[..] {
         ["images", folder] => {
-            let mut day = Day::new();
-            day.append_all(&Reference);
-            let images = [("month", work::month()), ("names", work::names()), ("day", day.image)];
+            let images =
+                [("month", work::month()), ("names", work::names()), ("day", Day::new().image)];
             for (name, image) in images {
                 fs::write(Path::new(folder).join(format!("{name}.gsd")), image).unwrap();
             }

@@ -4,7 +4,7 @@ use differential::images::{blank, put_names, put_slots, sheet, Row, Slot};
 use differential::library::{Create, Library, Reference};
 use std::hint::black_box;
 
-const FRAMES: u64 = 1440;
+pub const FRAMES: usize = 1440;
 
 fn listed(image: &mut [u8], at: usize, names: &[String]) {
     put_names(image, at, names.iter().map(String::as_bytes));
@@ -64,7 +64,7 @@ fn append(library: &dyn Library, image: &mut [u8], sheet: &[u8]) {
 }
 
 /// A minute's sheet: three readings, the heater's duty and a setpoint.
-fn frame(minute: u64) -> Vec<u8> {
+fn frame(minute: usize) -> Vec<u8> {
     let readings: Vec<u8> = (0..3)
         .flat_map(|probe| (20.0 + probe as f32 + minute as f32 / 60.0).to_le_bytes())
         .collect();
@@ -82,29 +82,35 @@ pub struct Day {
 }
 
 impl Day {
+    /// The whole day.
     pub fn new() -> Day {
         let sheets = (0..FRAMES).map(frame).collect();
-        Day { image: vec![0; 1 << 20], sheets }
+        let mut day = Day { image: vec![0; 1 << 20], sheets };
+        for minute in 0..FRAMES {
+            day.append(&Reference, minute);
+        }
+        day
     }
 
     pub fn clear(&mut self) {
         self.image.fill(0);
     }
 
-    pub fn append_all(&mut self, library: &dyn Library) {
-        create(library, &mut self.image);
-        for sheet in &self.sheets {
-            append(library, &mut self.image, sheet);
+    /// Appends one frame; before the first the image is made.
+    pub fn append(&mut self, library: &dyn Library, minute: usize) {
+        if minute == 0 {
+            create(library, &mut self.image);
         }
+        append(library, &mut self.image, &self.sheets[minute]);
     }
 
-    pub fn read_all(&self, library: &dyn Library) {
-        for frame in 0..FRAMES {
-            for name in [&b"probe"[..], b"heater", b"setpoint"] {
-                let mut out = [0; 2];
-                assert_eq!(library.chunk(black_box(&self.image), frame, name, &mut out), 0);
-                black_box(out);
-            }
+    /// Reads the three chunks of one frame.
+    pub fn read(&self, library: &dyn Library, minute: usize) {
+        for name in [&b"probe"[..], b"heater", b"setpoint"] {
+            let mut out = [0; 2];
+            let image = black_box(&self.image);
+            assert_eq!(library.chunk(image, minute as u64, name, &mut out), 0);
+            black_box(out);
         }
     }
 }
