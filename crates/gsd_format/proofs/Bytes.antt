@@ -111,11 +111,6 @@ unfolding leBytes
 leBytes-append zero n w = rw (zero-add, div-one)
 leBytes-append (suc m) n w = rw (suc-add, pow-succ', ← div-div-eq-div-mul, leBytes) (ap (λ l. w % 256 ∷ l) (leBytes-append m n (w / 256)))
 
--- numbers of two, four and eight bytes by their halves
-pub le-two : (s : List ℕ) (i : ℕ) → le 2 s i ≡ getD s i 0 + 256 * getD s (i + 1) 0
-unfolding le
-le-two s i = omega arith
-
 -- a number is 0 exactly when its bytes are
 pub le-zero : (n : ℕ) (x : List ℕ) (a : ℕ) → le n x a ≡ 0 → (k : ℕ) → k < n → getD x (a + k) 0 ≡ 0
 unfolding le
@@ -131,7 +126,11 @@ zero-le (suc n) x a h =
     let f : le n x (a + 1) ≡ 0 = zero-le n x (a + 1) (λ k l. ap (λ i. getD x i 0) (let e : a + 1 + k ≡ a + suc k = omega arith in e) ∙ h (suc k) (omega arith)) in
     omega arith
 
--- numbers of four and eight bytes by their halves
+-- numbers of two, four and eight bytes by their halves
+pub le-two : (s : List ℕ) (i : ℕ) → le 2 s i ≡ getD s i 0 + 256 * getD s (i + 1) 0
+unfolding le
+le-two s i = omega arith
+
 pub le-four : (s : List ℕ) (i : ℕ) → le 4 s i ≡ le 2 s i + 65536 * le 2 s (i + 2)
 unfolding le
 le-four s i = simp add-assoc (omega arith)
@@ -300,6 +299,9 @@ unfolding stored
 stored-append s i [] b = rw add-zero
 stored-append s i (x ∷ a) b = stored-append (set s i x) (i + 1) a b ∙ ap (λ k. stored (stored (set s i x) (i + 1) a) k b) (omega arith)
 
+pub stored-then : (s : List ℕ) (i : ℕ) (a b : List ℕ) (j : ℕ) → i + length a ≡ j → stored (stored s i a) j b ≡ stored s i (a ++ b)
+stored-then s i a b j e = ap (λ k. stored (stored s i a) k b) (sym e) ∙ sym (stored-append s i a b)
+
 pub stored-next : (s : List ℕ) (i : ℕ) (t : List ℕ) (n : ℕ) → n < length t → set (stored s i (take n t)) (i + n) (getD t n 0) ≡ stored s i (take (n + 1) t)
 unfolding stored
 stored-next s i t n h =
@@ -314,8 +316,8 @@ unfolding stored leBytes
 stored-four s i w = simp add-assoc
 
 pub stored-eight : (s : List ℕ) (i w : ℕ) → stored (stored s i (leBytes 4 w)) (i + 4) (leBytes 4 (w / 4294967296)) ≡ stored s i (leBytes 8 w)
-stored-eight s i w = ap (λ n. stored (stored s i (leBytes 4 w)) (i + n) (leBytes 4 (w / 4294967296))) (sym (leBytes-length 4 w))
-    ∙ sym (stored-append s i (leBytes 4 w) (leBytes 4 (w / 4294967296))) ∙ ap (stored s i) (sym (leBytes-append 4 4 w))
+stored-eight s i w =
+    stored-then s i (leBytes 4 w) (leBytes 4 (w / 4294967296)) (i + 4) (ap (λ n. i + n) (leBytes-length 4 w)) ∙ ap (stored s i) (sym (leBytes-append 4 4 w))
 
 -- what was stored, between what was before and behind
 pub stored-paste : (s : List ℕ) (i : ℕ) (bs : List ℕ) → i + length bs ≤ length s → stored s i bs ≡ take i s ++ bs ++ drop (i + length bs) s
