@@ -1,0 +1,4 @@
+-- What the append's code does, step by step.
+pub mod Exec
+pub mod Runs
+pub mod Turns
