@@ -30,7 +30,10 @@ sourceOf r w = cond (eqb (r .kind) 3) (placeOf r w) (r .from + 8 * w)
 unfoldable pub wordOf : List ℕ → List ℕ → Run → ℕ → ℕ
 wordOf sheet img r w = cond (eqb (r .kind) 2) (r .value) (le 8 (textOf sheet img r) (sourceOf r w))
 
--- the image after that store
+-- its store, and the image after that
+abbrev pub storeOf : List ℕ → List ℕ → Run → ℕ → Store
+storeOf sheet img r w = record { place = placeOf r w; bytes = leBytes 8 (wordOf sheet img r w) }
+
 abbrev pub applied : List ℕ → List ℕ → Run → ℕ → List ℕ
 applied sheet img r w = stored img (placeOf r w) (leBytes 8 (wordOf sheet img r w))
 
@@ -42,6 +45,11 @@ pub record Good (n m : ℕ) (r : Run) : Type 0 where
   pub image : r .kind ≡ 0 → r .until ≤ n
   pub sheet : r .kind ≡ 1 → r .until ≤ m
   pub name : r .kind ≡ 3 → (r .until ≤ m) × (r .value + (r .until - r .from) ≤ n)
+
+-- a word that is a number, or lies whole before the cut
+pub record Near (r : Run) (w : ℕ) : Type 0 where
+  pub known : r .kind < 3
+  pub whole : r .kind < 2 → r .from + 8 * w + 8 ≤ r .until
 
 -- a step is one word of a run
 pub record Step : Type 0 where
@@ -68,6 +76,4 @@ exec sheet img (s ∷ ss) = exec sheet (applied sheet img (s .run) (s .word)) ss
 
 unfoldable pub storesOf : List ℕ → List ℕ → List Step → List Store
 storesOf sheet img [] = []
-storesOf sheet img (s ∷ ss) =
-    record { place = placeOf (s .run) (s .word); bytes = leBytes 8 (wordOf sheet img (s .run) (s .word)) }
-    ∷ storesOf sheet (applied sheet img (s .run) (s .word)) ss
+storesOf sheet img (s ∷ ss) = storeOf sheet img (s .run) (s .word) ∷ storesOf sheet (applied sheet img (s .run) (s .word)) ss

@@ -8,46 +8,41 @@ use Rattle.gsd_append.specs.declared.plan.Heads.{Heads}
 use Rattle.gsd_append.specs.declared.plan.Plan.{Plan}
 use Rattle.gsd_append.specs.Exec.{Good, steps}
 
--- a number, stored in n words; a run of no words
+-- a number, stored in n words; no words
 abbrev pub number : ℕ → ℕ → ℕ → Run
 number to n v = record { kind = 2; to = to; words = n; from = 0; until = 0; value = v }
 
 abbrev pub none : Run
 none = number 0 0 0
 
--- the data of row i, padded with zeros; the j-th new name, from the word of its first byte to that of its last
+-- a row's data, padded with zeros
+abbrev pub body : ℕ → ℕ → ℕ → Run
+body to from until = record { kind = 1; to = to; words = (until - from + 7) / 8; from = from; until = until; value = 0 }
+
+-- a name, from the word of its first byte to that of its last
+abbrev pub name : ℕ → ℕ → ℕ → Run
+name at from until = record { kind = 3; to = at / 8 * 8; words = (at + (until - from) + 7) / 8 - at / 8; from = from; until = until; value = at }
+
 unfoldable pub bodyRun : Plan → ℕ → Run
-bodyRun p i =
-    let from : ℕ = getD (p .«body_from») i 0 in
-    let until : ℕ = getD (p .«body_until») i 0 in
-    record { kind = 1; to = getD (p .«body_to») i 0; words = (until - from + 7) / 8; from = from; until = until; value = 0 }
+bodyRun p i = body (getD (p .«body_to») i 0) (getD (p .«body_from») i 0) (getD (p .«body_until») i 0)
 
 unfoldable pub nameRun : Plan → ℕ → Run
-nameRun p j =
-    let at : ℕ = getD (p .«name_at») j 0 in
-    let from : ℕ = getD (p .«name_from») j 0 in
-    let until : ℕ = getD (p .«name_until») j 0 in
-    record { kind = 3; to = at / 8 * 8; words = (at + (until - from) + 7) / 8 - at / 8; from = from; until = until; value = at }
+nameRun p j = name (getD (p .«name_at») j 0) (getD (p .«name_from») j 0) (getD (p .«name_until») j 0)
 
--- The words of an entry in the order of their stores: the location, which shows the entry, comes last. `entryPlace i` is
--- the place in the entry of its i-th word, `entryWord p s i` that word of slot s
-unfoldable pub entryPlace : ℕ → ℕ
-entryPlace zero = 0
-entryPlace (suc zero) = 8
-entryPlace (suc (suc zero)) = 24
-entryPlace (suc (suc (suc i))) = 16
+-- the i-th of four numbers
+unfoldable pub ofFour : ℕ → ℕ → ℕ → ℕ → ℕ → ℕ
+ofFour a b c d zero = a
+ofFour a b c d (suc zero) = b
+ofFour a b c d (suc (suc zero)) = c
+ofFour a b c d (suc (suc (suc i))) = d
 
-unfoldable pub entryWord : Plan → ℕ → ℕ → ℕ
-entryWord p s zero = p .frame
-entryWord p s (suc zero) = getD (p .n) s 0
-entryWord p s (suc (suc zero)) = getD (p .meta) s 0
-entryWord p s (suc (suc (suc i))) = getD (p .location) s 0
-
--- word k of all entries' words, from the last slot to the first
+-- The k-th store of the entries, which go from the last slot to the first. In each slot the words at 0, 8 and 24 come
+-- first and the location, which shows the entry, last
 unfoldable pub entryRun : Plan → ℕ → Run
 entryRun p k =
     let s : ℕ = p .rows - 1 - k / 4 in
-    number (p .slot + 32 * s + entryPlace (k % 4)) 1 (entryWord p s (k % 4))
+    number (p .slot + 32 * s + ofFour 0 8 24 16 (k % 4)) 1
+    (ofFour (p .frame) (getD (p .n) s 0) (getD (p .meta) s 0) (getD (p .location) s 0) (k % 4))
 
 -- f i, f (i + 1), .., n of them
 unfoldable pub tab : (ℕ → Run) → ℕ → ℕ → List Run

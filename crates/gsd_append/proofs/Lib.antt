@@ -1,0 +1,3 @@
+-- Laws of runs, their steps and their stores.
+pub mod Words
+pub mod Steps
