@@ -2,3 +2,5 @@
 pub mod Words
 pub mod Steps
 pub mod RunWords
+pub mod Makes
+pub mod Blocks
