@@ -1,0 +1,6 @@
+-- Laws of runs, their steps and their stores.
+pub mod Words
+pub mod Steps
+pub mod RunWords
+pub mod Makes
+pub mod Blocks
