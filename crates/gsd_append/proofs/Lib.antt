@@ -4,3 +4,4 @@ pub mod Steps
 pub mod RunWords
 pub mod Makes
 pub mod Blocks
+pub mod Growing
