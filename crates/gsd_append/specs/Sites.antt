@@ -10,6 +10,7 @@ use Rattle.gsd_append.specs.declared.run.Run.{Run}
 use Rattle.gsd_append.specs.declared.plan.Heads.{Heads}
 use Rattle.gsd_append.specs.declared.sites.Sites.{Sites}
 use Rattle.gsd_append.specs.declared.sites.Block.{Block}
+use Rattle.gsd_append.specs.declared.sites.Clears.{Clears}
 use Rattle.gsd_append.specs.Runs.{number, none}
 use Rattle.gsd_append.specs.Matches.{copied, ifMoved}
 
@@ -35,3 +36,26 @@ blockOf moves to listed words from until h count = record {
     clear = ifMoved moves (number (to + 8 * listed) (words - listed) 0);
     place = ifMoved moves (number h 1 to);
     count = ifMoved moves (number (h + 8) 1 count) }
+
+-- the runs of step 1: the index slots behind the list, the word that holds the name list's end, the words behind it
+abbrev pub clearsOf : Layout → ℕ → ℕ → Clears
+clearsOf l entries end =
+    let first : ℕ = end / 8 * 8 in
+    let words : ℕ = (namelistEnd l - first) / 8 in
+    record {
+      index = number (l .index + 32 * entries) (4 * (l .slots - entries)) 0;
+      keep = copied first (min 1 words) first end;
+      names = number (first + 8 * min 1 words) (words - 1) 0 }
+
+-- the blocks that step 3 and step 5 move
+abbrev pub nameBlockOf : Layout → ℕ → Sites → Block
+nameBlockOf l end s = blockOf (s .«names_move») (s .body) ((end - l .namelist + 7) / 8) (8 * s .segments) (l .namelist) end 24 (s .segments)
+
+abbrev pub indexBlockOf : Layout → ℕ → Sites → Block
+indexBlockOf l entries s = blockOf (s .«index_moves») (s .names) (4 * entries) (4 * s .slots) (l .index) (l .index + 32 * entries) 8 (s .slots)
+
+abbrev pub headsOf : Clears → Block → Block → Heads
+headsOf c names index = record {
+    «clear_index» = c .index; «keep_names» = c .keep; «clear_names» = c .names;
+    «copy_names» = names .copy; «clear_block» = names .clear; word24 = names .place; word32 = names .count;
+    «copy_entries» = index .copy; «clear_slots» = index .clear; word8 = index .place; word16 = index .count }

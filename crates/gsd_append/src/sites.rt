@@ -1,7 +1,7 @@
 // Where an append's parts go: the end of use, the places and counts of new blocks, the final position.
 ghost use mathlib.Core.Path.{_≡_};
 ghost use mathlib.Core.Bool.{Bool, true, false, cond};
-ghost use Prim.Native.Nat.{_+_, _*_, _/_, _≤_, _<_, max};
+ghost use Prim.Native.Nat.{_+_, _*_, _-_, _/_, _≤_, _<_, max, min};
 ghost use lib.Dec.{ltb};
 ghost use Rattle.gsd_format.specs.Bytes.{roundUp};
 ghost use Rattle.gsd_format.specs.Header.{headerSize, greatestLength};
@@ -9,8 +9,9 @@ ghost use Rattle.gsd_stores.specs.View.{alignment, indexEnd, namelistEnd};
 ghost use Rattle.gsd_stores.specs.Plan.{grown};
 ghost use Rattle.gsd_append.specs.Runs.{number};
 ghost use Rattle.gsd_append.specs.Matches.{copied};
-ghost use Rattle.gsd_append.specs.Sites.{sitesOf, blockOf};
+ghost use Rattle.gsd_append.specs.Sites.{sitesOf, blockOf, clearsOf, nameBlockOf, indexBlockOf, headsOf};
 use gsd_format::Layout;
+use crate::plan::Heads;
 use crate::run::Run;
 
 fn greater(a: u64, b: u64) -> u64
@@ -142,5 +143,83 @@ pub(crate) fn block_runs(moves: bool, to: usize, listed: usize, words: usize, fr
         clear: number_run(to + 8 * listed, words - listed, 0),
         place: number_run(h, 1, to as u64),
         count: number_run(h + 8, 1, count),
+    }
+}
+
+// The runs of step 1.
+pub struct Clears {
+    pub index: Run,
+    pub keep: Run,
+    pub names: Run,
+}
+
+fn at_most_one(n: usize) -> usize
+    ensures { λ r. ⌜ r ≡ min 1 n ⌝ }
+{
+    if n < 1 { 0 } else { 1 }
+}
+
+fn less_one(n: usize) -> usize
+    ensures { λ r. ⌜ r ≡ n - 1 ⌝ }
+{
+    if n < 1 { 0 } else { n - 1 }
+}
+
+// end: the name list's.
+pub(crate) fn clear_runs(l: Layout, entries: usize, end: usize) -> Clears
+    requires { ⌜ (indexEnd l ≤ greatestLength) × (namelistEnd l ≤ greatestLength) × (entries ≤ l .slots) × (end ≤ namelistEnd l) ⌝ }
+    ensures { λ r. ⌜ r ≡ clearsOf l entries end ⌝ }
+{
+    let first = end / 8 * 8;
+    let words = ((l.namelist + 64 * l.segments) as usize - first) / 8;
+    let kept = at_most_one(words);
+    let index = number_run(l.index as usize + 32 * entries, 4 * (l.slots as usize - entries), 0);
+    let keep = copy_run(first, kept, first, end);
+    let names = number_run(first + 8 * kept, less_one(words), 0);
+    Clears { index, keep, names }
+}
+
+pub(crate) fn name_block(l: Layout, end: usize, s: Sites) -> Block
+    requires { ⌜ (end ≤ greatestLength) × (l .namelist ≤ end) × (s .body < 1152921504606846976) × (s .segments < 1152921504606846976) × (s .«names_move» ≡ true → end ≤ l .namelist + 64 * s .segments) ⌝ }
+    ensures { λ r. ⌜ r ≡ nameBlockOf l end s ⌝ }
+{
+    let listed = (end - l.namelist as usize + 7) / 8;
+    block_runs(s.names_move, s.body as usize, listed, 8 * s.segments as usize, l.namelist as usize, end, 24, s.segments)
+}
+
+pub(crate) fn index_block(l: Layout, entries: usize, s: Sites) -> Block
+    requires { ⌜ (l .index + 32 * entries ≤ greatestLength) × (s .names < 1152921504606846976) × (s .slots < 1152921504606846976) × (s .«index_moves» ≡ true → entries ≤ s .slots) ⌝ }
+    ensures { λ r. ⌜ r ≡ indexBlockOf l entries s ⌝ }
+{
+    let end = l.index as usize + 32 * entries;
+    block_runs(s.index_moves, s.names as usize, 4 * entries, 4 * s.slots as usize, l.index as usize, end, 8, s.slots)
+}
+
+pub(crate) fn join_heads(c: Clears, names: Block, index: Block) -> Heads
+    ensures { λ r. ⌜ r ≡ headsOf c names index ⌝ }
+{
+    let clear_index = c.index;
+    let keep_names = c.keep;
+    let clear_names = c.names;
+    let copy_names = names.copy;
+    let clear_block = names.clear;
+    let word24 = names.place;
+    let word32 = names.count;
+    let copy_entries = index.copy;
+    let clear_slots = index.clear;
+    let word8 = index.place;
+    let word16 = index.count;
+    Heads {
+        clear_index,
+        keep_names,
+        clear_names,
+        copy_names,
+        clear_block,
+        word24,
+        word32,
+        copy_entries,
+        clear_slots,
+        word8,
+        word16,
     }
 }
