@@ -5,3 +5,4 @@ pub mod RunWords
 pub mod Makes
 pub mod Blocks
 pub mod Growing
+pub mod SitesMatch
