@@ -142,9 +142,13 @@ pub fn put_text(s: &mut [u8], at: usize, t: &[u8])
     }
 }
 
-// The format's constants.
+// The format's constants: the lengths of the header and of the longest image, GSD 2.0, and the magic's eight bytes.
+pub const HEADER_SIZE: u64 = 256;
 
-// The magic, eight bytes.
+pub const GREATEST_LENGTH: usize = 1073741824;
+
+pub const VERSION: u64 = 0x00020000;
+
 pub const MAGIC: [u8; 8] = *b"\xdf\x65\xdf\x65\xdf\x65\xdf\x65";
 
 pub fn has_magic(s: &[u8]) -> bool

@@ -300,6 +300,9 @@ unfolding stored
 stored-append s i [] b = rw add-zero
 stored-append s i (x ∷ a) b = stored-append (set s i x) (i + 1) a b ∙ ap (λ k. stored (stored (set s i x) (i + 1) a) k b) (omega arith)
 
+pub stored-then : (s : List ℕ) (i : ℕ) (a b : List ℕ) (j : ℕ) → i + length a ≡ j → stored (stored s i a) j b ≡ stored s i (a ++ b)
+stored-then s i a b j e = ap (λ k. stored (stored s i a) k b) (sym e) ∙ sym (stored-append s i a b)
+
 pub stored-next : (s : List ℕ) (i : ℕ) (t : List ℕ) (n : ℕ) → n < length t → set (stored s i (take n t)) (i + n) (getD t n 0) ≡ stored s i (take (n + 1) t)
 unfolding stored
 stored-next s i t n h =

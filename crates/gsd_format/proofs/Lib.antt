@@ -9,3 +9,4 @@ pub mod Entries
 pub mod Verdict
 pub mod Lookup
 pub mod Types
+pub mod Create

@@ -1,8 +1,8 @@
 -- `gsd_bytes::size_of` meets its contract: its table is that of the definition.
 use Prim.Native.Nat.{ℕ, suc, _≤_}
 use mathlib.Core.Path.{_≡_, sym}
-use native.Mathlib.Omega.{arith}
 use mathlib.Core.Logic.{_⊎_, inl, inr, ⊎-elim}
+use native.Mathlib.Omega.{arith}
 use borrow.Author.Needs.{needs}
 use Rattle.gsd_format.specs.Types.{sizeOf}
 use Rattle.gsd_format.proofs.Types.{size-at, size-none}

@@ -1,0 +1,2 @@
+-- What a fresh image's stores make in a row.
+pub mod Fresh

@@ -1,0 +1,56 @@
+-- `gsd_create::put_numbers` meets its contract: its stores in a row.
+use borrow.Author.Needs.{needs}
+use Rattle.gsd_create.proofs.Fresh.{put-numbers}
+use Rattle.gsd_create.proofs.put_numbers.Statement.{statement}
+use Rattle.gsd_create.proofs.put_numbers.Tie as tie
+
+put-magic-requires : tie.Need-put-magic-requires
+put-magic-requires c κs = search needs
+
+put-word-requires : tie.Need-put-word-requires
+put-word-requires c κs = search needs
+
+put-word-requires-2 : tie.Need-put-word-requires-2
+put-word-requires-2 c κs = search needs
+
+mul-put-word : tie.Need-mul-put-word
+mul-put-word c = search needs
+
+add-put-word : tie.Need-add-put-word
+add-put-word c = search needs
+
+put-word-requires-3 : tie.Need-put-word-requires-3
+put-word-requires-3 c κs = search needs
+
+put-word-requires-4 : tie.Need-put-word-requires-4
+put-word-requires-4 c κs = search needs
+
+put-half-requires : tie.Need-put-half-requires
+put-half-requires c κs = search needs
+
+put-half-requires-2 : tie.Need-put-half-requires-2
+put-half-requires-2 c κs = search needs
+
+same-length : tie.Need-same-length
+same-length c = search needs
+
+returns : tie.Need-returns
+returns c =
+    let x = c .before .before .before .before .before .before .before .before .before .before .before .before .before .before .before .before .before .before .before .before .before .before .before .before .before .before .before .before .before .args in
+    cc (put-numbers (x .s .now) (x .schema-version) (x .slots) (x .segments))
+
+pub put-numbers-spec : {M : Type 1} → statement M
+put-numbers-spec =
+    tie.close
+    (tie.spec
+    put-magic-requires
+    put-word-requires
+    put-word-requires-2
+    mul-put-word
+    add-put-word
+    put-word-requires-3
+    put-word-requires-4
+    put-half-requires
+    put-half-requires-2
+    same-length
+    returns)

@@ -1,0 +1,2 @@
+-- The front of a fresh header.
+pub mod Numbers
