@@ -1,0 +1,2 @@
+-- Laws that the append's proofs cite.
+pub mod SheetRows

@@ -1,0 +1,2 @@
+-- What the append's code does, step by step.
+pub mod SheetRows

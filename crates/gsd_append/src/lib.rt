@@ -1,0 +1,2 @@
+// The append.
+mod sheet;

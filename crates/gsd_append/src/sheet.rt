@@ -1,0 +1,80 @@
+// The append sheet: its tests, numbers 22 to 27, and where the name and the data of each row lie in it.
+use gsd_bytes::{size_of, u16_at, u32_at, u64_at, wide};
+ghost use mathlib.Core.Path.{_≡_};
+ghost use Prim.Native.Nat.{_+_, _*_, _≤_, _<_};
+ghost use lib.ListN.{length};
+ghost use lib.Dec.{ltb};
+ghost use Rattle.gsd_format.specs.Bytes.{le};
+ghost use Rattle.gsd_stores.specs.Sheet.{rowKind, nameSize, bodySize, badRow, badTable};
+ghost use Rattle.gsd_stores.proofs.Sheet.{rowAt};
+
+// Row i of the table: N, M, type and name length.
+pub fn row_n(sheet: &[u8], i: usize) -> u64
+    requires { ⌜ rowAt i + 16 ≤ length (now sheet) ⌝ }
+    ensures { λ r. ⌜ r ≡ le 8 (now (sheet .entry)) (rowAt i) ⌝ }
+{
+    u64_at(sheet, 4 + 16 * i)
+}
+
+pub fn row_m(sheet: &[u8], i: usize) -> u64
+    requires { ⌜ rowAt i + 16 ≤ length (now sheet) ⌝ }
+    ensures { λ r. ⌜ (r ≡ le 4 (now (sheet .entry)) (rowAt i + 8)) × (r < 4294967296) ⌝ }
+{
+    u32_at(sheet, 4 + 16 * i + 8)
+}
+
+pub fn row_kind(sheet: &[u8], i: usize) -> u8
+    requires { ⌜ rowAt i + 16 ≤ length (now sheet) ⌝ }
+    ensures { λ r. ⌜ r ≡ rowKind (now (sheet .entry)) (rowAt i) ⌝ }
+{
+    sheet[4 + 16 * i + 12]
+}
+
+fn name_size(sheet: &[u8], i: usize) -> usize
+    requires { ⌜ rowAt i + 16 ≤ length (now sheet) ⌝ }
+    ensures { λ r. ⌜ (r ≡ nameSize (now (sheet .entry)) (rowAt i)) × (r < 256) ⌝ }
+{
+    wide(sheet[4 + 16 * i + 13]) as usize
+}
+
+// 24
+fn bad_row(sheet: &[u8], i: usize) -> bool
+    requires { ⌜ rowAt i + 16 ≤ length (now sheet) ⌝ }
+    ensures { λ r. ⌜ r ≡ badRow (now (sheet .entry)) (rowAt i) ⌝ }
+{
+    if size_of(row_kind(sheet, i)) == 0 {
+        return true;
+    }
+    if name_size(sheet, i) == 0 {
+        return true;
+    }
+    u16_at(sheet, 4 + 16 * i + 14) != 0
+}
+
+fn bad_table(sheet: &[u8], count: usize) -> bool
+    requires { ⌜ rowAt count ≤ length (now sheet) ⌝ }
+    ensures { λ r. ⌜ r ≡ badTable (now (sheet .entry)) 4 count ⌝ }
+{
+    let mut i = 0;
+    while i < count {
+        if bad_row(sheet, i) {
+            return true;
+        }
+        i += 1;
+    }
+    false
+}
+
+// Are n elements of m * size bytes each more than room? Only a product that could wrap asks for a division.
+fn exceeds(n: u64, each: u64, room: u64) -> bool
+    requires { ⌜ each < 34359738368 ⌝ }
+    ensures { λ r. ⌜ r ≡ ltb room (n * each) ⌝ }
+{
+    if n < 268435456 {
+        return room < n * each;
+    }
+    if each == 0 {
+        return false;
+    }
+    room / each < n
+}
