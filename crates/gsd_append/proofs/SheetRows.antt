@@ -3,7 +3,7 @@ use Prim.Native.Nat.{ℕ, zero, suc, _+_, _*_, _-_, _/_, _≤_, _<_}
 use mathlib.Core.Path.{_≡_, refl, sym, _∙_, ap}
 use mathlib.Core.Bool.{true, false, not, _||_}
 use mathlib.Core.List.{List, [], _∷_}
-use native.Mathlib.Nat.{mul-le-mul, div-lt-iff-lt-mul}
+use native.Mathlib.Nat.{mul-assoc, mul-le-mul, div-lt-iff-lt-mul}
 use native.Mathlib.Decide.{decLt}
 use native.Mathlib.Omega.{arith}
 use lib.ListN.{length, getD}
@@ -11,7 +11,7 @@ use lib.Dec.{ltb, eqb}
 use borrow.Author.Tests.{ltb-true, ltb-false, lt-ltb, le-ltb, ne-eqb}
 use Rattle.gsd_format.specs.Bytes.{le}
 use Rattle.gsd_format.specs.Types.{sizeOf}
-use Rattle.gsd_stores.specs.Sheet.{rowKind, nameSize, badRow, badTable}
+use Rattle.gsd_stores.specs.Sheet.{rowKind, nameSize, bodySize, badRow, badTable}
 use Rattle.gsd_stores.proofs.Sheet.{rowPlace, rowAt}
 
 -- 24: a row's tests in their order
@@ -49,3 +49,11 @@ quotient-tells room n each p = go (decLt room (n * each))
 
 pub product-fits : (n each : ℕ) → n < 268435456 → each < 34359738368 → n * each < 18446744073709551616
 product-fits n each l m = let h : n * each ≤ 268435456 * 34359738368 = mul-le-mul {n₂ = 268435456} {m₂ = 34359738368} (omega arith) (omega arith) in omega arith
+
+pub size-bound : (m size : ℕ) → m < 4294967296 → size ≤ 8 → m * size < 34359738368
+size-bound m size l h = let e : m * size ≤ 4294967295 * 8 = mul-le-mul {n₂ = 4294967295} {m₂ = 8} (omega arith) h in omega arith
+
+-- the bytes of a row's data as N times the rest
+pub body-product : (s : List ℕ) (t : ℕ) → le 8 s t * (le 4 s (t + 8) * sizeOf (rowKind s t)) ≡ bodySize s t
+unfolding bodySize
+body-product s t = sym (mul-assoc (le 8 s t) (le 4 s (t + 8)) (sizeOf (rowKind s t)))

@@ -1,12 +1,14 @@
 // The append sheet: its tests, numbers 22 to 27, and where the name and the data of each row lie in it.
 use gsd_bytes::{size_of, u16_at, u32_at, u64_at, wide};
 ghost use mathlib.Core.Path.{_≡_};
-ghost use Prim.Native.Nat.{_+_, _*_, _≤_, _<_};
+ghost use Prim.Native.Nat.{_+_, _*_, _≤_, _<_, min};
 ghost use lib.ListN.{length};
 ghost use lib.Dec.{ltb};
 ghost use Rattle.gsd_format.specs.Bytes.{le};
-ghost use Rattle.gsd_stores.specs.Sheet.{rowKind, nameSize, bodySize, badRow, badTable};
+ghost use Rattle.gsd_format.specs.Types.{sizeOf};
+ghost use Rattle.gsd_stores.specs.Sheet.{rowKind, nameSize, badRow, badTable};
 ghost use Rattle.gsd_stores.proofs.Sheet.{rowAt};
+ghost use Rattle.gsd_append.specs.SheetRows.{rowEnd};
 
 // Row i of the table: N, M, type and name length.
 pub fn row_n(sheet: &[u8], i: usize) -> u64
@@ -65,7 +67,15 @@ fn bad_table(sheet: &[u8], count: usize) -> bool
     false
 }
 
-// Are n elements of m * size bytes each more than room? Only a product that could wrap asks for a division.
+// The bytes of one element of a row times M.
+fn row_size(sheet: &[u8], i: usize) -> u64
+    requires { ⌜ rowAt i + 16 ≤ length (now sheet) ⌝ }
+    ensures { λ r. ⌜ (r ≡ le 4 (now (sheet .entry)) (rowAt i + 8) * sizeOf (rowKind (now (sheet .entry)) (rowAt i))) × (r < 34359738368) ⌝ }
+{
+    row_m(sheet, i) * size_of(row_kind(sheet, i))
+}
+
+// Is n * each more than room? Only a product that could wrap asks for a division.
 fn exceeds(n: u64, each: u64, room: u64) -> bool
     requires { ⌜ each < 34359738368 ⌝ }
     ensures { λ r. ⌜ r ≡ ltb room (n * each) ⌝ }
@@ -77,4 +87,22 @@ fn exceeds(n: u64, each: u64, room: u64) -> bool
         return false;
     }
     room / each < n
+}
+
+// Where row i ends if its name begins at `from`; any place behind the sheet's end is sheet.len() + 1.
+fn row_end(sheet: &[u8], i: usize, from: usize) -> usize
+    requires { ⌜ (rowAt i + 16 ≤ length (now sheet)) × (from ≤ length (now sheet)) ⌝ }
+    ensures { λ r. ⌜ r ≡ min (rowEnd (now (sheet .entry)) (rowAt i) from) (length (now (sheet .entry)) + 1) ⌝ }
+{
+    let len = sheet.len();
+    let body = from + name_size(sheet, i);
+    if len < body {
+        return len + 1;
+    }
+    let n = row_n(sheet, i);
+    let each = row_size(sheet, i);
+    if exceeds(n, each, (len - body) as u64) {
+        return len + 1;
+    }
+    body + (n * each) as usize
 }
