@@ -4,15 +4,22 @@ use mathlib.Core.Path.{_≡_, refl, sym, _∙_, ap}
 use mathlib.Core.Bool.{true, false, not, _||_}
 use mathlib.Core.List.{List, [], _∷_}
 use native.Mathlib.Nat.{mul-assoc, mul-le-mul, div-lt-iff-lt-mul}
+use native.Mathlib.Numerals.{add-one}
 use native.Mathlib.Decide.{decLt}
 use native.Mathlib.Omega.{arith}
-use lib.ListN.{length, getD}
+use lib.ListN.{length, getD, set}
+use lib.Seq.{getD-set-same, getD-set-other}
 use lib.Dec.{ltb, eqb}
+use borrow.Author.Count.{below-more}
 use borrow.Author.Tests.{ltb-true, ltb-false, lt-ltb, le-ltb, ne-eqb}
 use Rattle.gsd_format.specs.Bytes.{le}
 use Rattle.gsd_format.specs.Types.{sizeOf}
-use Rattle.gsd_stores.specs.Sheet.{rowKind, nameSize, bodySize, badRow, badTable}
-use Rattle.gsd_stores.proofs.Sheet.{rowPlace, rowAt}
+use Rattle.gsd_format.specs.Refusals.{_⇒_}
+use Rattle.gsd_format.proofs.Refusals.{differ-no}
+use Rattle.gsd_stores.specs.Sheet.{rowKind, nameSize, bodySize, badRow, badTable, bodiesEnd, rowCount, tableEnd}
+use Rattle.gsd_stores.proofs.Sheet.{start-first, start-next, start-rises, bodies-end, rowAt, nameAt, Exact}
+use Rattle.gsd_append.specs.declared.sheet.SheetRows.{SheetRows}
+use Rattle.gsd_append.specs.SheetRows.{rowEnd, endTest, Filled, Found}
 
 -- 24: a row's tests in their order
 module _ (s : List ℕ) (t : ℕ) where
@@ -57,3 +64,42 @@ size-bound m size l h = let e : m * size ≤ 4294967295 * 8 = mul-le-mul {n₂ =
 pub body-product : (s : List ℕ) (t : ℕ) → le 8 s t * (le 4 s (t + 8) * sizeOf (rowKind s t)) ≡ bodySize s t
 unfolding bodySize
 body-product s t = sym (mul-assoc (le 8 s t) (le 4 s (t + 8)) (sizeOf (rowKind s t)))
+
+pub name-first : (s : List ℕ) → nameAt s 0 ≡ tableEnd s
+name-first s = start-first s 4 (tableEnd s)
+
+-- the data end with the sheet, or 25
+pub exact-end : (s : List ℕ) → Exact s → endTest s ≡ 0
+unfolding endTest
+exact-end s e = differ-no _ _ _ (e ∙ sym (bodies-end (rowCount s) s 4 (tableEnd s)))
+
+pub other-end : (s : List ℕ) → (Exact s → ⊥) → endTest s ≡ 25
+unfolding endTest _⇒_
+other-end s f =
+    let n : eqb (length s) (bodiesEnd s 4 (tableEnd s) (rowCount s)) ≡ false =
+    ne-eqb _ _ (λ e. f (e ∙ bodies-end (rowCount s) s 4 (tableEnd s))) in
+    rw n
+
+-- a name begins where the row before it ends
+pub name-next : (s : List ℕ) (i : ℕ) → nameAt s (i + 1) ≡ rowEnd s (rowAt i) (nameAt s i)
+name-next s i = rw add-one (start-next s 4 (tableEnd s) i)
+
+-- a row that ends behind the sheet's end
+pub late-end : (s : List ℕ) (i : ℕ) → i ≤ rowCount s → length s < nameAt s i → endTest s ≡ 25
+late-end s i l h = other-end s (λ e. omega (arith, start-rises (rowCount s) s 4 (tableEnd s) i l))
+
+-- Places
+
+pub filled-none : {f : ℕ → ℕ} {l : List ℕ} → Filled f l 0
+filled-none = record { at = λ i h. absurd (omega arith) }
+
+pub filled-to : {f : ℕ → ℕ} {l : List ℕ} {n m : ℕ} → n ≡ m → Filled f l n → Filled f l m
+filled-to e h = record { at = λ i l. h .at i (omega arith) }
+
+pub filled-more : {f : ℕ → ℕ} {l : List ℕ} {i v : ℕ} → Filled f l i → i < length l → v ≡ f i → Filled f (set l i v) (i + 1)
+filled-more {f} {l} {i} {v} h b e =
+    record { at = below-more (λ k. getD (set l i v) k 0 ≡ f k) i (λ k m. getD-set-other l i k v 0 (λ q. omega arith) ∙ h .at k m) (getD-set-same l i v 0 b ∙ e) }
+
+-- a refusal has no rows to locate
+pub refused-found : (s : List ℕ) (k n : ℕ) (r : SheetRows) → k ≡ suc n → r .number ≡ suc n → Found s k r
+refused-found s k n r p e = record { number = e ∙ sym p; count = λ z. absurd (omega arith); rows = λ z. absurd (omega arith) }

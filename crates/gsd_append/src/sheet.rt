@@ -6,9 +6,28 @@ ghost use lib.ListN.{length};
 ghost use lib.Dec.{ltb};
 ghost use Rattle.gsd_format.specs.Bytes.{le};
 ghost use Rattle.gsd_format.specs.Types.{sizeOf};
-ghost use Rattle.gsd_stores.specs.Sheet.{rowKind, nameSize, badRow, badTable};
+ghost use Rattle.gsd_stores.specs.Sheet.{rowKind, nameSize, badRow, badTable, rowCount, tableEnd};
 ghost use Rattle.gsd_stores.proofs.Sheet.{rowAt};
-ghost use Rattle.gsd_append.specs.SheetRows.{rowEnd};
+ghost use Rattle.gsd_append.specs.SheetRows.{rowEnd, endTest, Found};
+
+// Row i's name lies from names[i] to bodies[i], its data from bodies[i] to names[i + 1]. A refusal has no rows.
+pub struct SheetRows {
+    pub number: u64,
+    pub count: usize,
+    pub names: [usize; 65],
+    pub bodies: [usize; 64],
+}
+
+fn refused(number: u64) -> SheetRows
+    ensures { λ r. ⌜ r .number ≡ number ⌝ }
+{
+    SheetRows {
+        number,
+        count: 0,
+        names: [0; 65],
+        bodies: [0; 64],
+    }
+}
 
 // Row i of the table: N, M, type and name length.
 pub fn row_n(sheet: &[u8], i: usize) -> u64
@@ -105,4 +124,35 @@ fn row_end(sheet: &[u8], i: usize, from: usize) -> usize
         return len + 1;
     }
     body + (n * each) as usize
+}
+
+// 25: the rows one behind the other, and the sheet's end behind the last.
+fn place_rows(sheet: &[u8], count: usize) -> SheetRows
+    requires { ⌜ (count ≡ rowCount (now sheet)) × (count ≤ 64) × (tableEnd (now sheet) ≤ length (now sheet)) ⌝ }
+    ensures { λ r. ⌜ Found (now (sheet .entry)) (endTest (now (sheet .entry))) r ⌝ }
+{
+    let mut names = [0usize; 65];
+    let mut bodies = [0usize; 64];
+    let mut at = 4 + 16 * count;
+    let mut i = 0;
+    while i < count {
+        let end = row_end(sheet, i, at);
+        if sheet.len() < end {
+            return refused(25);
+        }
+        names[i] = at;
+        bodies[i] = at + name_size(sheet, i);
+        at = end;
+        i += 1;
+    }
+    if at != sheet.len() {
+        return refused(25);
+    }
+    names[count] = at;
+    SheetRows {
+        number: 0,
+        count,
+        names,
+        bodies,
+    }
 }
