@@ -11,15 +11,15 @@ use lib.ListN.{length, getD, set}
 use lib.Seq.{getD-set-same, getD-set-other}
 use lib.Dec.{ltb, eqb}
 use borrow.Author.Count.{below-more}
-use borrow.Author.Tests.{ltb-true, ltb-false, lt-ltb, le-ltb, ne-eqb}
+use borrow.Author.Tests.{ltb-true, ltb-false, lt-ltb, le-ltb, eq-eqb, ne-eqb}
 use Rattle.gsd_format.specs.Bytes.{le}
 use Rattle.gsd_format.specs.Types.{sizeOf}
-use Rattle.gsd_format.specs.Refusals.{_⇒_}
+use Rattle.gsd_format.specs.Refusals.{_⇒_, _▹_}
 use Rattle.gsd_format.proofs.Refusals.{differ-no}
 use Rattle.gsd_stores.specs.Sheet.{rowKind, nameSize, bodySize, badRow, badTable, bodiesEnd, rowCount, tableEnd}
 use Rattle.gsd_stores.proofs.Sheet.{start-first, start-next, start-rises, bodies-end, rowAt, nameAt, Exact}
 use Rattle.gsd_append.specs.declared.sheet.SheetRows.{SheetRows}
-use Rattle.gsd_append.specs.SheetRows.{rowEnd, endTest, Filled, Found}
+use Rattle.gsd_append.specs.SheetRows.{rowEnd, tableTest, endTest, Filled, Found}
 
 -- 24: a row's tests in their order
 module _ (s : List ℕ) (t : ℕ) where
@@ -43,6 +43,29 @@ bad-next s n i l =
 pub bad-none : (s : List ℕ) (n : ℕ) → badTable s (rowAt n) (n - n) ≡ false
 unfolding badTable
 bad-none s n = let e : n - n ≡ 0 = omega arith in rw (e, badTable)
+
+-- 22 to 24 in their order
+module _ (s : List ℕ) where
+  pub table-short : length s < 4 → tableTest s ≡ 22
+  unfolding tableTest _⇒_ _▹_
+  table-short h = simp (lt-ltb (length s) 4 h)
+
+  pub table-none : 4 ≤ length s → rowCount s ≡ 0 → tableTest s ≡ 22
+  unfolding tableTest _⇒_ _▹_
+  table-none h e = simp (le-ltb (length s) 4 h, eq-eqb (rowCount s) 0 e)
+
+  pub table-many : 4 ≤ length s → 64 < rowCount s → tableTest s ≡ 22
+  unfolding tableTest _⇒_ _▹_
+  table-many h l = simp (le-ltb (length s) 4 h, ne-eqb (rowCount s) 0 (λ e. omega arith), lt-ltb 64 (rowCount s) l)
+
+  module _ (h : 4 ≤ length s) (some : 0 < rowCount s) (few : rowCount s ≤ 64) where
+    pub table-cut : length s < tableEnd s → tableTest s ≡ 23
+    unfolding tableTest _⇒_ _▹_
+    table-cut l = simp (le-ltb (length s) 4 h, ne-eqb (rowCount s) 0 (λ e. omega arith), le-ltb 64 (rowCount s) few, lt-ltb (length s) (tableEnd s) l)
+
+    pub table-whole : tableEnd s ≤ length s → tableTest s ≡ (badTable s 4 (rowCount s) ⇒ 24)
+    unfolding tableTest _⇒_ _▹_
+    table-whole l = simp (le-ltb (length s) 4 h, ne-eqb (rowCount s) 0 (λ e. omega arith), le-ltb 64 (rowCount s) few, le-ltb (length s) (tableEnd s) l)
 
 -- 25: a quotient tells whether a product is greater, and no product is made that could wrap
 pub quotient-tells : (room n each : ℕ) → 0 < each → ltb (room / each) n ≡ ltb room (n * each)

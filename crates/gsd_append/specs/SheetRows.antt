@@ -8,6 +8,7 @@ use lib.Dec.{ltb, eqb}
 use Rattle.gsd_format.specs.Refusals.{_⇒_, _▹_}
 use Rattle.gsd_format.specs.Opening.{twins}
 use Rattle.gsd_stores.specs.Sheet.{nameSize, bodySize, badTable, bodiesEnd, rowCount, tableEnd, rowsOf, rowNames, anyZero, mostRows}
+use Rattle.gsd_stores.specs.Demand3.{noRow}
 use Rattle.gsd_stores.proofs.Sheet.{nameAt, bodyAt, Exact}
 use Rattle.gsd_append.specs.declared.sheet.SheetRows.{SheetRows}
 
@@ -27,6 +28,10 @@ endTest s = not (eqb (length s) (bodiesEnd s 4 (tableEnd s) (rowCount s))) ⇒ 2
 
 unfoldable pub namesTest : List ℕ → ℕ
 namesTest s = (anyZero (rowNames (rowsOf s)) ⇒ 26) ▹ (twins (rowNames (rowsOf s)) ⇒ 27)
+
+-- the name of row i
+abbrev pub nameOf : List ℕ → ℕ → List ℕ
+nameOf s i = getD (rowsOf s) i noRow .name
 
 -- the first n numbers of l are f 0, f 1, ..
 pub record Filled (f : ℕ → ℕ) (l : List ℕ) (n : ℕ) : Type 0 where

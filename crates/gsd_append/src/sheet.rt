@@ -1,14 +1,18 @@
 // The append sheet: its tests, numbers 22 to 27, and where the name and the data of each row lie in it.
-use gsd_bytes::{size_of, u16_at, u32_at, u64_at, wide};
+use gsd_bytes::{has_zero, same_part, size_of, u16_at, u32_at, u64_at, wide};
 ghost use mathlib.Core.Path.{_≡_};
 ghost use Prim.Native.Nat.{_+_, _*_, _≤_, _<_, min};
 ghost use lib.ListN.{length};
 ghost use lib.Dec.{ltb};
-ghost use Rattle.gsd_format.specs.Bytes.{le};
+ghost use Rattle.gsd_format.specs.Bytes.{le, same};
 ghost use Rattle.gsd_format.specs.Types.{sizeOf};
-ghost use Rattle.gsd_stores.specs.Sheet.{rowKind, nameSize, badRow, badTable, rowCount, tableEnd};
+ghost use Rattle.gsd_format.specs.Names.{indexOf};
+ghost use Rattle.gsd_format.specs.Opening.{twins};
+ghost use Rattle.gsd_stores.specs.Sheet.{rowKind, nameSize, badRow, badTable, rowCount, tableEnd, rowsOf, rowNames, anyZero, sheetTest};
 ghost use Rattle.gsd_stores.proofs.Sheet.{rowAt};
-ghost use Rattle.gsd_append.specs.SheetRows.{rowEnd, endTest, Found};
+ghost use Rattle.gsd_append.specs.SheetRows.{rowEnd, tableTest, endTest, namesTest, Located, Found, nameOf};
+
+const MOST_ROWS: usize = 64;
 
 // Row i's name lies from names[i] to bodies[i], its data from bodies[i] to names[i + 1]. A refusal has no rows.
 pub struct SheetRows {
@@ -86,6 +90,29 @@ fn bad_table(sheet: &[u8], count: usize) -> bool
     false
 }
 
+// 22 to 24.
+fn table_number(sheet: &[u8]) -> u64
+    ensures { λ r. ⌜ r ≡ tableTest (now (sheet .entry)) ⌝ }
+{
+    if sheet.len() < 4 {
+        return 22;
+    }
+    let count = u32_at(sheet, 0) as usize;
+    if count == 0 {
+        return 22;
+    }
+    if MOST_ROWS < count {
+        return 22;
+    }
+    if sheet.len() < 4 + 16 * count {
+        return 23;
+    }
+    if bad_table(sheet, count) {
+        return 24;
+    }
+    0
+}
+
 // The bytes of one element of a row times M.
 fn row_size(sheet: &[u8], i: usize) -> u64
     requires { ⌜ rowAt i + 16 ≤ length (now sheet) ⌝ }
@@ -155,4 +182,100 @@ fn place_rows(sheet: &[u8], count: usize) -> SheetRows
         names,
         bodies,
     }
+}
+
+// 26: is there a zero byte in one of the names?
+fn zero_named<'a>(sheet: &[u8], count: usize, names: &'a [usize; 65], bodies: &'a [usize; 64]) -> bool
+    requires { ⌜ Located (now sheet) (now names) (now bodies) × (count ≡ rowCount (now sheet)) × (count ≤ 64) ⌝ }
+    ensures { λ r. ⌜ r ≡ anyZero (rowNames (rowsOf (now (sheet .entry)))) ⌝ }
+{
+    let mut i = 0;
+    while i < count {
+        if has_zero(sheet, names[i], bodies[i]) {
+            return true;
+        }
+        i += 1;
+    }
+    false
+}
+
+// Have rows i and j the same name?
+fn same_name<'a>(
+    sheet: &[u8],
+    names: &'a [usize; 65],
+    bodies: &'a [usize; 64],
+    i: usize,
+    j: usize,
+) -> bool
+    requires { ⌜ Located (now sheet) (now names) (now bodies) × (i < rowCount (now sheet)) × (j < rowCount (now sheet)) × (rowCount (now sheet) ≤ 64) ⌝ }
+    ensures { λ r. ⌜ r ≡ same (nameOf (now (sheet .entry)) i) (nameOf (now (sheet .entry)) j) ⌝ }
+{
+    let a = names[i];
+    let b = names[j];
+    let n = bodies[i] - a;
+    if bodies[j] - b != n {
+        return false;
+    }
+    same_part(sheet, a, sheet, b, n)
+}
+
+// Has a row before row i the same name?
+fn repeated<'a>(sheet: &[u8], names: &'a [usize; 65], bodies: &'a [usize; 64], i: usize) -> bool
+    requires { ⌜ Located (now sheet) (now names) (now bodies) × (i < rowCount (now sheet)) × (rowCount (now sheet) ≤ 64) ⌝ }
+    ensures { λ r. ⌜ r ≡ ltb (indexOf (nameOf (now (sheet .entry)) i) (rowNames (rowsOf (now (sheet .entry))))) i ⌝ }
+{
+    let mut j = 0;
+    while j < i {
+        if same_name(sheet, names, bodies, j, i) {
+            return true;
+        }
+        j += 1;
+    }
+    false
+}
+
+// 27: have two rows the same name?
+fn twin_named<'a>(sheet: &[u8], count: usize, names: &'a [usize; 65], bodies: &'a [usize; 64]) -> bool
+    requires { ⌜ Located (now sheet) (now names) (now bodies) × (count ≡ rowCount (now sheet)) × (count ≤ 64) ⌝ }
+    ensures { λ r. ⌜ r ≡ twins (rowNames (rowsOf (now (sheet .entry)))) ⌝ }
+{
+    let mut i = 0;
+    while i < count {
+        if repeated(sheet, names, bodies, i) {
+            return true;
+        }
+        i += 1;
+    }
+    false
+}
+
+fn names_number<'a>(sheet: &[u8], count: usize, names: &'a [usize; 65], bodies: &'a [usize; 64]) -> u64
+    requires { ⌜ Located (now sheet) (now names) (now bodies) × (count ≡ rowCount (now sheet)) × (count ≤ 64) ⌝ }
+    ensures { λ r. ⌜ r ≡ namesTest (now (sheet .entry)) ⌝ }
+{
+    if zero_named(sheet, count, names, bodies) {
+        return 26;
+    }
+    if twin_named(sheet, count, names, bodies) {
+        return 27;
+    }
+    0
+}
+
+pub fn sheet_rows(sheet: &[u8]) -> SheetRows
+    ensures { λ r. ⌜ Found (now (sheet .entry)) (sheetTest (now (sheet .entry))) r ⌝ }
+{
+    let number = table_number(sheet);
+    if number != 0 {
+        return refused(number);
+    }
+    let rows = place_rows(sheet, u32_at(sheet, 0) as usize);
+    if rows.number != 0 {
+        return rows;
+    }
+    let number = names_number(sheet, rows.count, &rows.names, &rows.bodies);
+    if number != 0 {
+        return refused(number);
+    }
+    rows
 }
