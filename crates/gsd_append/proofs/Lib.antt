@@ -6,3 +6,5 @@ pub mod Makes
 pub mod Blocks
 pub mod Growing
 pub mod SitesMatch
+-- Laws that the append's proofs cite.
+pub mod SheetRows

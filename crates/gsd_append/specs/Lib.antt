@@ -4,3 +4,4 @@ pub mod Runs
 pub mod Matches
 pub mod Turns
 pub mod Sites
+pub mod SheetRows

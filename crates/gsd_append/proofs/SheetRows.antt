@@ -1,0 +1,128 @@
+-- Laws of the sheet's tests as the code makes them: row by row, and pair by pair.
+use Prim.Native.Nat.{ℕ, zero, suc, _+_, _*_, _-_, _/_, _≤_, _<_}
+use mathlib.Core.Path.{_≡_, refl, sym, _∙_, ap}
+use mathlib.Core.Bool.{true, false, not, _||_}
+use mathlib.Core.List.{List, [], _∷_}
+use native.Mathlib.Nat.{mul-assoc, mul-le-mul, div-lt-iff-lt-mul}
+use native.Mathlib.Numerals.{add-one}
+use native.Mathlib.Decide.{decLt}
+use native.Mathlib.Omega.{arith}
+use lib.ListN.{length, getD, set}
+use lib.Seq.{getD-set-same, getD-set-other}
+use lib.Dec.{ltb, eqb}
+use borrow.Author.Count.{below-more}
+use borrow.Author.Tests.{ltb-true, ltb-false, lt-ltb, le-ltb, eq-eqb, ne-eqb}
+use Rattle.gsd_format.specs.Bytes.{le}
+use Rattle.gsd_format.specs.Types.{sizeOf}
+use Rattle.gsd_format.specs.Refusals.{_⇒_, _▹_}
+use Rattle.gsd_format.proofs.Refusals.{differ-no}
+use Rattle.gsd_stores.specs.Sheet.{rowKind, nameSize, bodySize, badRow, badTable, bodiesEnd, rowCount, tableEnd}
+use Rattle.gsd_stores.proofs.Sheet.{start-first, start-next, start-rises, bodies-end, rowAt, nameAt, Exact}
+use Rattle.gsd_append.specs.declared.sheet.SheetRows.{SheetRows}
+use Rattle.gsd_append.specs.SheetRows.{rowEnd, tableTest, endTest, Filled, Found}
+
+-- 24: a row's tests in their order
+module _ (s : List ℕ) (t : ℕ) where
+  pub bad-kind : sizeOf (rowKind s t) ≡ 0 → badRow s t ≡ true
+  bad-kind e = rw e
+
+  pub bad-name : (sizeOf (rowKind s t) ≡ 0 → ⊥) → nameSize s t ≡ 0 → badRow s t ≡ true
+  bad-name e f = simp (lt-ltb 0 (sizeOf (rowKind s t)) (omega arith), f)
+
+  pub bad-spare : (sizeOf (rowKind s t) ≡ 0 → ⊥) → (nameSize s t ≡ 0 → ⊥) → badRow s t ≡ not (eqb (le 2 s (t + 14)) 0)
+  bad-spare e f = simp (lt-ltb 0 (sizeOf (rowKind s t)) (omega arith), ne-eqb (nameSize s t) 0 f)
+
+-- the table from row i on is bad when row i is, or the rest
+pub bad-next : (s : List ℕ) (n i : ℕ) → i < n → badTable s (rowAt i) (n - i) ≡ (badRow s (rowAt i) || badTable s (rowAt (i + 1)) (n - (i + 1)))
+unfolding badTable
+bad-next s n i l =
+    let e : n - i ≡ suc (n - (i + 1)) = omega arith in
+    let f : rowAt i + 16 ≡ rowAt (i + 1) = omega arith in
+    rw (e, badTable, f)
+
+pub bad-none : (s : List ℕ) (n : ℕ) → badTable s (rowAt n) (n - n) ≡ false
+unfolding badTable
+bad-none s n = let e : n - n ≡ 0 = omega arith in rw (e, badTable)
+
+-- 22 to 24 in their order
+module _ (s : List ℕ) where
+  pub table-short : length s < 4 → tableTest s ≡ 22
+  unfolding tableTest _⇒_ _▹_
+  table-short h = simp (lt-ltb (length s) 4 h)
+
+  pub table-none : 4 ≤ length s → rowCount s ≡ 0 → tableTest s ≡ 22
+  unfolding tableTest _⇒_ _▹_
+  table-none h e = simp (le-ltb (length s) 4 h, eq-eqb (rowCount s) 0 e)
+
+  pub table-many : 4 ≤ length s → 64 < rowCount s → tableTest s ≡ 22
+  unfolding tableTest _⇒_ _▹_
+  table-many h l = simp (le-ltb (length s) 4 h, ne-eqb (rowCount s) 0 (λ e. omega arith), lt-ltb 64 (rowCount s) l)
+
+  module _ (h : 4 ≤ length s) (some : 0 < rowCount s) (few : rowCount s ≤ 64) where
+    pub table-cut : length s < tableEnd s → tableTest s ≡ 23
+    unfolding tableTest _⇒_ _▹_
+    table-cut l = simp (le-ltb (length s) 4 h, ne-eqb (rowCount s) 0 (λ e. omega arith), le-ltb 64 (rowCount s) few, lt-ltb (length s) (tableEnd s) l)
+
+    pub table-whole : tableEnd s ≤ length s → tableTest s ≡ (badTable s 4 (rowCount s) ⇒ 24)
+    unfolding tableTest _⇒_ _▹_
+    table-whole l = simp (le-ltb (length s) 4 h, ne-eqb (rowCount s) 0 (λ e. omega arith), le-ltb 64 (rowCount s) few, le-ltb (length s) (tableEnd s) l)
+
+-- 25: a quotient tells whether a product is greater, and no product is made that could wrap
+pub quotient-tells : (room n each : ℕ) → 0 < each → ltb (room / each) n ≡ ltb room (n * each)
+quotient-tells room n each p = go (decLt room (n * each))
+  where
+    go : Dec (room < n * each) → ltb (room / each) n ≡ ltb room (n * each)
+    go (yes l) = lt-ltb _ _ (div-lt-iff-lt-mul p .1 l) ∙ sym (lt-ltb _ _ l)
+    go (no l) =
+        let f : room / each < n → ⊥ = λ h. l (div-lt-iff-lt-mul p .0 h) in
+        le-ltb (room / each) n (omega arith) ∙ sym (le-ltb room (n * each) (omega arith))
+
+pub product-fits : (n each : ℕ) → n < 268435456 → each < 34359738368 → n * each < 18446744073709551616
+product-fits n each l m = let h : n * each ≤ 268435456 * 34359738368 = mul-le-mul {n₂ = 268435456} {m₂ = 34359738368} (omega arith) (omega arith) in omega arith
+
+pub size-bound : (m size : ℕ) → m < 4294967296 → size ≤ 8 → m * size < 34359738368
+size-bound m size l h = let e : m * size ≤ 4294967295 * 8 = mul-le-mul {n₂ = 4294967295} {m₂ = 8} (omega arith) h in omega arith
+
+-- the bytes of a row's data as N times the rest
+pub body-product : (s : List ℕ) (t : ℕ) → le 8 s t * (le 4 s (t + 8) * sizeOf (rowKind s t)) ≡ bodySize s t
+unfolding bodySize
+body-product s t = sym (mul-assoc (le 8 s t) (le 4 s (t + 8)) (sizeOf (rowKind s t)))
+
+pub name-first : (s : List ℕ) → nameAt s 0 ≡ tableEnd s
+name-first s = start-first s 4 (tableEnd s)
+
+-- the data end with the sheet, or 25
+pub exact-end : (s : List ℕ) → Exact s → endTest s ≡ 0
+unfolding endTest
+exact-end s e = differ-no _ _ _ (e ∙ sym (bodies-end (rowCount s) s 4 (tableEnd s)))
+
+pub other-end : (s : List ℕ) → (Exact s → ⊥) → endTest s ≡ 25
+unfolding endTest _⇒_
+other-end s f =
+    let n : eqb (length s) (bodiesEnd s 4 (tableEnd s) (rowCount s)) ≡ false =
+    ne-eqb _ _ (λ e. f (e ∙ bodies-end (rowCount s) s 4 (tableEnd s))) in
+    rw n
+
+-- a name begins where the row before it ends
+pub name-next : (s : List ℕ) (i : ℕ) → nameAt s (i + 1) ≡ rowEnd s (rowAt i) (nameAt s i)
+name-next s i = rw add-one (start-next s 4 (tableEnd s) i)
+
+-- a row that ends behind the sheet's end
+pub late-end : (s : List ℕ) (i : ℕ) → i ≤ rowCount s → length s < nameAt s i → endTest s ≡ 25
+late-end s i l h = other-end s (λ e. omega (arith, start-rises (rowCount s) s 4 (tableEnd s) i l))
+
+-- Places
+
+pub filled-none : {f : ℕ → ℕ} {l : List ℕ} → Filled f l 0
+filled-none = record { at = λ i h. absurd (omega arith) }
+
+pub filled-to : {f : ℕ → ℕ} {l : List ℕ} {n m : ℕ} → n ≡ m → Filled f l n → Filled f l m
+filled-to e h = record { at = λ i l. h .at i (omega arith) }
+
+pub filled-more : {f : ℕ → ℕ} {l : List ℕ} {i v : ℕ} → Filled f l i → i < length l → v ≡ f i → Filled f (set l i v) (i + 1)
+filled-more {f} {l} {i} {v} h b e =
+    record { at = below-more (λ k. getD (set l i v) k 0 ≡ f k) i (λ k m. getD-set-other l i k v 0 (λ q. omega arith) ∙ h .at k m) (getD-set-same l i v 0 b ∙ e) }
+
+-- a refusal has no rows to locate
+pub refused-found : (s : List ℕ) (k n : ℕ) (r : SheetRows) → k ≡ suc n → r .number ≡ suc n → Found s k r
+refused-found s k n r p e = record { number = e ∙ sym p; count = λ z. absurd (omega arith); rows = λ z. absurd (omega arith) }
