@@ -8,3 +8,4 @@ pub mod Growing
 pub mod SitesMatch
 -- Laws that the append's proofs cite.
 pub mod SheetRows
+pub mod Filling
