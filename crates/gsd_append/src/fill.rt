@@ -82,7 +82,7 @@ pub(crate) fn fill_entries(sheet: &[u8], order: &[u64; 64], to: &[usize; 64], co
         let packed = order[s];
         let row = (packed % 64) as usize;
         n[s] = sheet::row_n(sheet, row);
-        meta[s] = sheet::row_m(sheet, row) + 4294967296 * (packed / 64) + 281474976710656 * (sheet::row_kind(sheet, row) as u64);
+        meta[s] = sheet::row_m(sheet, row) + 4294967296 * (packed / 64) + 281474976710656 * gsd_bytes::wide(sheet::row_kind(sheet, row));
         location[s] = to[row] as u64;
         s += 1;
     }
