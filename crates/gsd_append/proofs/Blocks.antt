@@ -23,12 +23,13 @@ use Rattle.gsd_append.specs.Exec.{placeOf, wordOf, stepsFrom, steps, sto
 use Rattle.gsd_append.specs.Runs.{number, clears}
 use Rattle.gsd_append.specs.Matches.{copied, ifMoved, endWord, wordsBehind, HeadsMatch}
 use Rattle.gsd_append.proofs.Words.{cut-before, cut-behind, place-other, word-number}
+use Rattle.gsd_append.proofs.Octets.{no-octets}
 use Rattle.gsd_append.proofs.RunWords.{number-stores, copied-stores}
 use Rattle.gsd_append.proofs.Makes.{Makes, AnyImage, _⨾_}
 
 -- A text in an image, cut off at its end; the zeros behind it
 
-text-cut : (x : List ℕ) (at : ℕ) (t : List ℕ) (until p : ℕ) → Text x at t → until ≡ at + length t → at ≤ p → getD (take until x) p 0 ≡ getD t (p - at) 0
+pub text-cut : (x : List ℕ) (at : ℕ) (t : List ℕ) (until p : ℕ) → Text x at t → until ≡ at + length t → at ≤ p → getD (take until x) p 0 ≡ getD t (p - at) 0
 text-cut x at t until p h e l = go (decLt p until)
   where
     go : Dec (p < until) → getD (take until x) p 0 ≡ getD t (p - at) 0
@@ -37,9 +38,6 @@ text-cut x at t until p h e l = go (decLt p until)
 
 zero-behind : (t : List ℕ) (i : ℕ) → length t ≤ i → 0 ≡ le 8 t i
 zero-behind t i h = sym (zero-le 8 t i (λ k l. List·getD-eq-default t 0 (omega arith)))
-
-no-bytes : Octets []
-no-bytes i = omega arith
 
 -- zeros in words behind a text
 zero-stores : (sheet t : List ℕ) (base to n : ℕ) → Octets t → (0 < n → base + length t ≤ to) → Makes sheet AnyImage AnyImage (number to n 0 ∷ []) (words t base (up to n))
@@ -67,7 +65,7 @@ module _ {x₀ : List ℕ} {v : View} {p : Defined} {h : Heads} (sheet : List �
   index-cleared : Makes sheet (Base x₀ v) (λ x. Base x₀ v x × IndexClear v x) (h .«clear_index» ∷ []) (clearIndex v)
   unfolding clearIndex
   index-cleared = record {
-    same = λ img b. rw (m .clearIndex) (zero-stores sheet [] 0 (entriesEnd v) (4 * (v .layout .slots - length (v .entries))) no-bytes (λ l. omega arith) .same img tt);
+    same = λ img b. rw (m .clearIndex) (zero-stores sheet [] 0 (entriesEnd v) (4 * (v .layout .slots - length (v .entries))) no-octets (λ l. omega arith) .same img tt);
     final = clear-index {x₀ = x₀} {W = AnyImage} {v = v} (λ y b. tt) .final;
   }
 
