@@ -7,3 +7,4 @@ pub mod Makes
 pub mod Blocks
 pub mod RowRuns
 pub mod StoreList
+pub mod Runs
