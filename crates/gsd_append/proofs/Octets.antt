@@ -8,8 +8,10 @@ use lib.ListN.{length, getD, List·getD-append, List·getD-eq-default}
 use lib.Seq.{getD-append-add}
 use Rattle.gsd_format.specs.declared.Entry.{Entry}
 use Rattle.gsd_format.specs.Bytes.{leBytes}
+use Rattle.gsd_format.specs.Names.{flat}
 use Rattle.gsd_format.specs.Lookup.{none}
 use Rattle.gsd_format.proofs.Bytes.{Octets, Text}
+use Rattle.gsd_format.proofs.Names.{flat-append}
 use Rattle.gsd_format.proofs.Entries.{Fits}
 use Rattle.gsd_stores.specs.Sheet.{Row}
 use Rattle.gsd_stores.specs.Plan.{padded, bodies}
@@ -46,6 +48,12 @@ pub leBytes-octets : (n w : ℕ) → Octets (leBytes n w)
 unfolding leBytes
 leBytes-octets zero w = no-octets
 leBytes-octets (suc n) w = octets-cons (w % 256) (leBytes n (w / 256)) (omega arith) (leBytes-octets n (w / 256))
+
+-- a name list with one name more
+pub flat-octets : (ns : List (List ℕ)) (b : List ℕ) → Octets (flat ns) → Octets b → Octets (flat (ns ++ b ∷ []))
+unfolding flat
+flat-octets ns b o h =
+    rw (flat-append ns (b ∷ [])) (octets-append (flat ns) (b ++ 0 ∷ []) o (octets-append b (0 ∷ []) h (octets-cons 0 [] (omega arith) no-octets)))
 
 -- the rows' data with their padding
 pub bodies-octets : (rs : List Row) → ((i : ℕ) → i < length rs → Octets (getD rs i noRow .body)) → Octets (bodies rs)

@@ -1,26 +1,37 @@
 -- Steps 2, 4 and 6 of an append, run by run: the data of each row, the new names, and the new entries.
 use Prim.Native.Nat.{ℕ, zero, suc, _+_, _*_, _-_, _/_, _%_, _≤_, _<_}
 use mathlib.Core.Path.{_≡_, refl, sym, _∙_, ap}
-use mathlib.Core.List.{List, [], _∷_, _++_}
+use mathlib.Core.List.{List, [], _∷_, _++_, append-assoc, append-nil}
+use native.Mathlib.Nat.{add-zero}
 use native.Mathlib.Omega.{arith}
-use lib.ListN.{length, getD, take}
+use native.Mathlib.Decide.{decLt}
+use lib.ListN.{length, getD, take, length-append, List·getD-append, List·getD-eq-default}
+use lib.Seq.{getD-append-add}
 use Rattle.gsd_format.specs.Bytes.{le}
-use Rattle.gsd_format.proofs.Bytes.{Octets, Text}
-use Rattle.gsd_stores.specs.Stores.{Store, words, up}
+use Rattle.gsd_format.specs.Header.{headerSize}
+use Rattle.gsd_format.specs.Names.{flat}
+use Rattle.gsd_format.proofs.Bytes.{Octets, Text, Apart}
+use Rattle.gsd_format.proofs.Lists.{Each}
+use Rattle.gsd_format.proofs.Names.{Named, flat-size, flat-more}
+use Rattle.gsd_stores.specs.Stores.{Store, words, up, down}
+use Rattle.gsd_stores.specs.View.{View, namesEnd, namelistEnd}
 use Rattle.gsd_stores.specs.Sheet.{Row, rowsOf, rowCount, tableEnd}
 use Rattle.gsd_stores.specs.Plan.{Plan as Defined, padded, bodies}
-use Rattle.gsd_stores.specs.Steps.{storeData}
+use Rattle.gsd_stores.specs.Steps.{storeData, storeName, storeNames}
 use Rattle.gsd_stores.specs.Demand3.{noRow}
 use Rattle.gsd_stores.proofs.Stores.{words-append, up-append}
+use Rattle.gsd_stores.proofs.View.{withNames, is-long, Stage}
+use Rattle.gsd_stores.proofs.NewNames.{one-name}
 use Rattle.gsd_stores.proofs.Sheet.{rowAt, nameAt, bodyAt, Exact, rows-count, body-length, body-text, start-next}
 use Rattle.gsd_stores.proofs.Rows.{padded-length, padded-byte, bodies-even, bodyOffset, offset-first, offset-next, offset-even, offset-inside, offset-last, bodies-text}
 use Rattle.gsd_append.specs.declared.run.Run.{Run}
 use Rattle.gsd_append.specs.declared.plan.Plan.{Plan}
-use Rattle.gsd_append.specs.Exec.{steps, storesOf}
-use Rattle.gsd_append.specs.Runs.{body, bodyRun, tab}
+use Rattle.gsd_append.specs.Exec.{over, steps, storesOf}
+use Rattle.gsd_append.specs.Runs.{body, name, bodyRun, nameRun, tab}
 use Rattle.gsd_append.specs.Matches.{BodyMatch}
-use Rattle.gsd_append.proofs.Octets.{text-octets, bodies-octets}
-use Rattle.gsd_append.proofs.RunWords.{body-stores}
+use Rattle.gsd_append.proofs.Words.{over-below, over-inside, over-above}
+use Rattle.gsd_append.proofs.Octets.{text-octets, octets-append, flat-octets, bodies-octets}
+use Rattle.gsd_append.proofs.RunWords.{body-stores, name-stores}
 use Rattle.gsd_append.proofs.Makes.{Makes, AnyImage, _⨾_, makes-none}
 use Rattle.gsd_append.proofs.Blocks.{text-cut}
 
@@ -104,3 +115,90 @@ module _ (sheet : List ℕ) (exact : Exact sheet) (o : Octets sheet) (p : Define
       let start : p .start + bodyOffset rs 0 ≡ p .start = omega (arith, offset-first rs) in
       let total : (length (bodies rs) - bodyOffset rs 0) / 8 ≡ length (p .body) / 8 = omega (arith, offset-first rs, ap length whole) in
       rw (start, total) at (rows-stored (length rs) 0 (omega arith))
+
+-- Step 4
+
+-- a name in the sheet
+pub record Written (sheet : List ℕ) (from until : ℕ) (b : List ℕ) : Type 0 where
+  pub text : Text sheet from b
+  pub long : until ≡ from + length b
+  pub inside : until ≤ length sheet
+
+module _ {x₀ : List ℕ} {u : View} {d : ℕ} {t : List ℕ} (sheet : List ℕ) (o : Octets sheet) (from until : ℕ) (b : List ℕ) (w : Written sheet from until b)
+    (names : Octets (flat (u .names))) (low : headerSize ≤ d) (off : Apart d (length t) (u .layout .namelist) (64 * u .layout .segments))
+    (even : u .layout .namelist % 8 ≡ 0) (good : Named b) (fits : length (flat (u .names)) + length b + 1 ≤ 64 * u .layout .segments) where
+  -- the words of a name hold the names before it and zeros behind it
+  name-over : (img : List ℕ) → Stage x₀ u d t img → (p : ℕ) → u .layout .namelist ≤ p → p < namelistEnd (u .layout) →
+      getD (over img sheet (namesEnd u) from until) p 0 ≡ getD (flat (u .names) ++ b) (p - u .layout .namelist) 0
+  name-over img s p x y = go (decLt p (namesEnd u)) (decLt p (namesEnd u + length b))
+    where
+      at : ℕ
+      at = u .layout .namelist
+
+      before : List ℕ
+      before = flat (u .names)
+
+      order : from ≤ until
+      order = omega arith
+
+      go : Dec (p < namesEnd u) → Dec (p < namesEnd u + length b) → getD (over img sheet (namesEnd u) from until) p 0 ≡ getD (before ++ b) (p - at) 0
+      go (yes a) c =
+          over-below img sheet (namesEnd u) from until (w .inside) order p a
+          ∙ ap (λ i. getD img i 0) (let e : p ≡ at + (p - at) = omega arith in e)
+          ∙ s .base .is .names .each (p - at) (omega arith)
+          ∙ sym (List·getD-append before b 0 (p - at) (omega arith))
+      go (no a) (yes c) =
+          over-inside img sheet (namesEnd u) from until (w .inside) order p (omega (arith, is-long (s .base .is))) (omega arith) (omega arith)
+          ∙ w .text (p - namesEnd u) (omega arith)
+          ∙ sym (getD-append-add before b (p - namesEnd u) 0)
+          ∙ ap (λ i. getD (before ++ b) i 0) (let e : length before + (p - namesEnd u) ≡ p - at = omega arith in e)
+      go (no a) (no c) =
+          over-above img sheet (namesEnd u) from until (w .inside) order p (omega arith)
+          ∙ s .names p (omega arith) y
+          ∙ sym (List·getD-eq-default (before ++ b) 0 (omega (arith, length-append before b)))
+
+  name-stored : Makes sheet (Stage x₀ u d t) (Stage x₀ (withNames u (u .names ++ b ∷ [])) d t) (name (namesEnd u) from until ∷ [])
+      (storeName (u .layout .namelist) (flat (u .names)) b)
+  unfolding storeName
+  name-stored =
+      let at : ℕ = namesEnd u in
+      let count : ℕ = (at + length b - 1) / 8 - at / 8 + 1 in
+      let n : (at + (until - from) + 7) / 8 - at / 8 ≡ count = omega (arith, good .some) in
+      let end : at / 8 * 8 + 8 * count ≤ namelistEnd (u .layout) = omega (arith, good .some) in
+      record {
+        same = λ img s.
+            name-stores sheet (flat (u .names) ++ b) (u .layout .namelist) (octets-append (flat (u .names)) b names (text-octets sheet from b o (w .text)))
+            at from until img (omega arith) (λ p x y. name-over img s p (omega arith) (omega arith))
+            ∙ ap (λ k. words (flat (u .names) ++ b) (u .layout .namelist) (down (at / 8 * 8) k)) n;
+        final = one-name {x₀ = x₀} {v = u} {d = d} {t = t} b low off even good fits {W = AnyImage} (λ y z. tt) .final;
+      }
+
+-- the j-th new name of a plan is b, and goes to this place
+pub record NameAt (sheet : List ℕ) (c : Plan) (j at : ℕ) (b : List ℕ) : Type 0 where
+  pub place : getD (c .«name_at») j 0 ≡ at
+  pub written : Written sheet (getD (c .«name_from») j 0) (getD (c .«name_until») j 0) b
+
+pub names-stored : {x₀ : List ℕ} {d : ℕ} {t : List ℕ} (sheet : List ℕ) → Octets sheet → (c : Plan) (bs : List (List ℕ)) (u : View) (j : ℕ) →
+    Octets (flat (u .names)) → headerSize ≤ d → Apart d (length t) (u .layout .namelist) (64 * u .layout .segments) → u .layout .namelist % 8 ≡ 0 →
+    Each Named bs → length (flat (u .names)) + length (flat bs) ≤ 64 * u .layout .segments →
+    ((k : ℕ) → k < length bs → NameAt sheet c (j + k) (u .layout .namelist + length (flat (u .names ++ take k bs))) (getD bs k [])) →
+    Makes sheet (Stage x₀ u d t) (Stage x₀ (withNames u (u .names ++ bs)) d t) (tab (nameRun c) j (length bs)) (storeNames (u .layout .namelist) (u .names) bs)
+unfolding tab storeNames nameRun
+names-stored sheet o c [] u j names low off even good fits spot = rw append-nil makes-none
+names-stored {x₀} {d} {t} sheet o c (b ∷ bs) u j names low off even good fits spot =
+    rw append-assoc at (first ⨾ names-stored {x₀ = x₀} {d = d} {t = t} sheet o c bs (withNames u more) (suc j)
+    (flat-octets (u .names) b names (text-octets sheet _ b o (here .written .text))) low off even (good .1)
+    (omega (arith, flat-size b bs, flat-more (u .names) b)) (λ k l.
+    let e : suc j + k ≡ j + suc k = omega arith in rw (e, append-assoc) (spot (suc k) (omega arith))))
+  where
+    more : List (List ℕ)
+    more = u .names ++ b ∷ []
+
+    here : NameAt sheet c j (namesEnd u) b
+    here = rw (append-nil, add-zero) at (spot 0 (omega arith))
+
+    first : Makes sheet (Stage x₀ u d t) (Stage x₀ (withNames u more) d t) (nameRun c j ∷ []) (storeName (u .layout .namelist) (flat (u .names)) b)
+    first =
+        rw (here .place)
+        (name-stored {x₀ = x₀} {u = u} {d = d} {t = t} sheet o (getD (c .«name_from») j 0) (getD (c .«name_until») j 0) b (here .written) names low off even (good .0)
+        (omega (arith, flat-size b bs)))
