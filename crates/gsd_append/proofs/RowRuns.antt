@@ -2,36 +2,41 @@
 use Prim.Native.Nat.{ℕ, zero, suc, _+_, _*_, _-_, _/_, _%_, _≤_, _<_}
 use mathlib.Core.Path.{_≡_, refl, sym, _∙_, ap}
 use mathlib.Core.List.{List, [], _∷_, _++_, append-assoc, append-nil}
-use native.Mathlib.Nat.{add-zero}
+use native.Mathlib.Nat.{add-zero, zero-add}
 use native.Mathlib.Omega.{arith}
 use native.Mathlib.Decide.{decLt}
 use lib.ListN.{length, getD, take, length-append, List·getD-append, List·getD-eq-default}
 use lib.Seq.{getD-append-add}
+use Rattle.gsd_format.specs.declared.Entry.{Entry}
 use Rattle.gsd_format.specs.Bytes.{le}
 use Rattle.gsd_format.specs.Header.{headerSize}
 use Rattle.gsd_format.specs.Names.{flat}
-use Rattle.gsd_format.proofs.Bytes.{Octets, Text, Apart}
+use Rattle.gsd_format.specs.Entries.{entryAt}
+use Rattle.gsd_format.specs.Lookup.{none as noEntry}
+use Rattle.gsd_format.proofs.Bytes.{Octets, Text, Apart, le-two, le-four, le-eight}
 use Rattle.gsd_format.proofs.Lists.{Each}
 use Rattle.gsd_format.proofs.Names.{Named, flat-size, flat-more}
-use Rattle.gsd_stores.specs.Stores.{Store, words, up, down}
+use Rattle.gsd_format.proofs.Entries.{Fits}
+use Rattle.gsd_stores.specs.Stores.{Store, words, up, down, slotsDown}
 use Rattle.gsd_stores.specs.View.{View, namesEnd, namelistEnd}
 use Rattle.gsd_stores.specs.Sheet.{Row, rowsOf, rowCount, tableEnd}
 use Rattle.gsd_stores.specs.Plan.{Plan as Defined, padded, bodies}
-use Rattle.gsd_stores.specs.Steps.{storeData, storeName, storeNames}
+use Rattle.gsd_stores.specs.Steps.{storeData, storeName, storeNames, indexBytes, storeEntries}
 use Rattle.gsd_stores.specs.Demand3.{noRow}
 use Rattle.gsd_stores.proofs.Stores.{words-append, up-append}
 use Rattle.gsd_stores.proofs.View.{withNames, is-long, Stage}
 use Rattle.gsd_stores.proofs.NewNames.{one-name}
+use Rattle.gsd_stores.proofs.NewEntries.{index-entry}
 use Rattle.gsd_stores.proofs.Sheet.{rowAt, nameAt, bodyAt, Exact, rows-count, body-length, body-text, start-next}
 use Rattle.gsd_stores.proofs.Rows.{padded-length, padded-byte, bodies-even, bodyOffset, offset-first, offset-next, offset-even, offset-inside, offset-last, bodies-text}
 use Rattle.gsd_append.specs.declared.run.Run.{Run}
 use Rattle.gsd_append.specs.declared.plan.Plan.{Plan}
 use Rattle.gsd_append.specs.Exec.{over, steps, storesOf}
-use Rattle.gsd_append.specs.Runs.{body, name, bodyRun, nameRun, tab}
-use Rattle.gsd_append.specs.Matches.{BodyMatch}
+use Rattle.gsd_append.specs.Runs.{number, body, name, bodyRun, nameRun, ofFour, entryRun, tab}
+use Rattle.gsd_append.specs.Matches.{BodyMatch, EntryMatch}
 use Rattle.gsd_append.proofs.Words.{over-below, over-inside, over-above}
-use Rattle.gsd_append.proofs.Octets.{text-octets, octets-append, flat-octets, bodies-octets}
-use Rattle.gsd_append.proofs.RunWords.{body-stores, name-stores}
+use Rattle.gsd_append.proofs.Octets.{text-octets, octets-append, flat-octets, bodies-octets, index-octets}
+use Rattle.gsd_append.proofs.RunWords.{number-stores, body-stores, name-stores}
 use Rattle.gsd_append.proofs.Makes.{Makes, AnyImage, _⨾_, makes-none}
 use Rattle.gsd_append.proofs.Blocks.{text-cut}
 
@@ -202,3 +207,102 @@ names-stored {x₀} {d} {t} sheet o c (b ∷ bs) u j names low off even good fit
         rw (here .place)
         (name-stored {x₀ = x₀} {u = u} {d = d} {t = t} sheet o (getD (c .«name_from») j 0) (getD (c .«name_until») j 0) b (here .written) names low off even (good .0)
         (omega (arith, flat-size b bs)))
+
+-- Step 6
+
+-- one word of a text, in a run of its own
+word-stored : (sheet t : List ℕ) (base to v : ℕ) → Octets t → v ≡ le 8 t (to - base) → Makes sheet AnyImage AnyImage (number to 1 v ∷ []) (words t base (to ∷ []))
+unfolding words up
+word-stored sheet t base to v o h = record {
+  same = λ img u. number-stores sheet t base o to 1 v img (λ k l. h ∙ ap (λ a. le 8 t (a - base)) (let e : to ≡ to + 8 * k = omega arith in e));
+  final = λ img u. tt;
+}
+
+-- the fourth word of an entry: M, id, type and flags
+last-word : (t : List ℕ) (a : ℕ) → le 8 t (a + 24) ≡ le 4 t (a + 24) + 4294967296 * le 2 t (a + 28) + 281474976710656 * (getD t (a + 30) 0 + 256 * getD t (a + 31) 0)
+last-word t a =
+    let x : le 4 t (a + 24 + 4) ≡ le 4 t (a + 28) = ap (le 4 t) (omega arith) in
+    let y : le 2 t (a + 28 + 2) ≡ le 2 t (a + 30) = ap (le 2 t) (omega arith) in
+    let z : getD t (a + 30 + 1) 0 ≡ getD t (a + 31) 0 = ap (λ i. getD t i 0) (omega arith) in
+    omega (arith, le-eight t (a + 24), le-four t (a + 28), le-two t (a + 30))
+
+module _ (sheet : List ℕ) (es : List Entry) (c : Plan) (long : length es ≡ c .rows) (fits : (s : ℕ) → s < length es → Fits (getD es s noEntry))
+    (frame : (s : ℕ) → s < length es → c .frame ≡ getD es s noEntry .frame) (flags : (s : ℕ) → s < length es → getD es s noEntry .flags ≡ 0)
+    (m : (s : ℕ) → s < length es → EntryMatch c s (getD es s noEntry)) where
+  abbrev text : List ℕ
+  text = indexBytes es
+
+  -- the four words of a slot's entry
+  entry-word : (s i : ℕ) → s < length es → i < 4 →
+      ofFour (c .frame) (getD (c .n) s 0) (getD (c .meta) s 0) (getD (c .location) s 0) i ≡ le 8 text (32 * s + ofFour 0 8 24 16 i)
+  unfolding entryAt ofFour
+  entry-word s i l k = go i k
+    where
+      at : ℕ
+      at = 32 * s
+
+      e : entryAt text at ≡ getD es s noEntry
+      e = rw zero-add at (index-entry text 0 es s l (fits s l) (λ j n. ap (λ q. getD text q 0) (zero-add j)))
+
+      go : (i : ℕ) → i < 4 → ofFour (c .frame) (getD (c .n) s 0) (getD (c .meta) s 0) (getD (c .location) s 0) i ≡ le 8 text (at + ofFour 0 8 24 16 i)
+      go zero h = frame s l ∙ sym (ap (λ q. q .frame) e) ∙ ap (le 8 text) (let z : at ≡ at + 0 = omega arith in z)
+      go (suc zero) h = m s l .n ∙ sym (ap (λ q. q .n) e)
+      go (suc (suc zero)) h =
+          omega (arith, m s l .meta, last-word text at, ap (λ q. q .m) e, ap (λ q. q .id) e, ap (λ q. q .kind) e, ap (λ q. q .flags) e, flags s l)
+      go (suc (suc (suc zero))) h = m s l .location ∙ sym (ap (λ q. q .location) e)
+      go (suc (suc (suc (suc i)))) h = absurd (omega arith)
+
+  -- the k-th run
+  entry-run : (q i : ℕ) → i < 4 → entryRun c (4 * q + i) ≡
+      let s : ℕ = c .rows - 1 - q in
+      number (c .slot + 32 * s + ofFour 0 8 24 16 i) 1 (ofFour (c .frame) (getD (c .n) s 0) (getD (c .meta) s 0) (getD (c .location) s 0) i)
+  unfolding entryRun
+  entry-run q i k =
+      let d : (4 * q + i) / 4 ≡ q = omega arith in
+      let e : (4 * q + i) % 4 ≡ i = omega arith in
+      rw (d, e)
+
+  word-of : (n i : ℕ) → n < c .rows → i < 4 →
+      Makes sheet AnyImage AnyImage (entryRun c (4 * (c .rows - suc n) + i) ∷ []) (words text (c .slot) ((c .slot + 32 * n + ofFour 0 8 24 16 i) ∷ []))
+  word-of n i l k =
+      let s : c .rows - 1 - (c .rows - suc n) ≡ n = omega arith in
+      let place : 32 * n + ofFour 0 8 24 16 i ≡ c .slot + 32 * n + ofFour 0 8 24 16 i - c .slot = omega arith in
+      rw (entry-run (c .rows - suc n) i k, s)
+      (word-stored sheet text (c .slot) (c .slot + 32 * n + ofFour 0 8 24 16 i) _ (index-octets es fits) (entry-word n i (omega arith) k ∙ ap (le 8 text) place))
+
+  -- from the last slot to the first
+  slots-stored : (n : ℕ) → n ≤ c .rows → Makes sheet AnyImage AnyImage (tab (entryRun c) (4 * (c .rows - n)) (4 * n)) (words text (c .slot) (slotsDown (c .slot) n))
+  unfolding tab words slotsDown ofFour
+  slots-stored zero h = makes-none
+  slots-stored (suc n) h = record {
+    same = λ img u.
+        ap (λ rs. storesOf sheet img (steps rs)) runs
+        ∙ (word-of n 0 h (omega arith) ⨾ word-of n 1 h (omega arith) ⨾ word-of n 2 h (omega arith) ⨾ word-of n 3 h (omega arith) ⨾ slots-stored n (omega arith)) .same img u
+        ∙ ap (λ a. words text (c .slot) (a ∷ (slot + 8) ∷ (slot + 24) ∷ (slot + 16) ∷ slotsDown (c .slot) n)) (let e : slot + 0 ≡ slot = omega arith in e);
+    final = λ img u. tt;
+  }
+    where
+      slot : ℕ
+      slot = c .slot + 32 * n
+
+      q : ℕ
+      q = 4 * (c .rows - suc n)
+
+      f : ℕ → Run
+      f = entryRun c
+
+      runs : tab f q (4 * suc n) ≡ f (q + 0) ∷ f (q + 1) ∷ f (q + 2) ∷ f (q + 3) ∷ tab f (4 * (c .rows - n)) (4 * n)
+      runs =
+          let e : 4 * suc n ≡ suc (suc (suc (suc (4 * n)))) = omega arith in
+          let e0 : q ≡ q + 0 = omega arith in
+          let e1 : suc q ≡ q + 1 = omega arith in
+          let e2 : suc (suc q) ≡ q + 2 = omega arith in
+          let e3 : suc (suc (suc q)) ≡ q + 3 = omega arith in
+          let e4 : suc (suc (suc (suc q))) ≡ 4 * (c .rows - n) = omega arith in
+          ap (tab f q) e ∙ (λ i. f (e0 i) ∷ f (e1 i) ∷ f (e2 i) ∷ f (e3 i) ∷ tab f (e4 i) (4 * n))
+
+  pub entries-stored : Makes sheet AnyImage AnyImage (tab (entryRun c) 0 (4 * c .rows)) (storeEntries (c .slot) es)
+  unfolding storeEntries
+  entries-stored =
+      let first : 4 * (c .rows - c .rows) ≡ 0 = omega arith in
+      rw (long, ← first) (slots-stored (c .rows) (omega arith))
