@@ -8,3 +8,4 @@ pub mod Blocks
 pub mod RowRuns
 pub mod StoreList
 pub mod Runs
+pub mod Turns

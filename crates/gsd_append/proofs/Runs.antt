@@ -74,6 +74,12 @@ runs-length p =
     rw (runs-are p)
     (simp (length-append, tab-length) (omega arith))
 
+pub runs-inside : (p : Plan) (r : ℕ) → r < 11 + p .fresh + 5 * p .rows → r < length (runsOf p)
+runs-inside p r h = rw runs-length h
+
+pub runs-over : (p : Plan) (r : ℕ) → 11 + p .fresh + 5 * p .rows ≤ r → length (runsOf p) ≤ r
+runs-over p r h = rw runs-length h
+
 -- the r-th run, by the number that is left of r after the groups before its own
 module _ (p : Plan) (r : ℕ) where
   pub at-clears : r < 3 → getD (runsOf p) r none ≡ getD (clears (p .heads)) r none
