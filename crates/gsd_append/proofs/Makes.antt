@@ -25,6 +25,11 @@ pub record Makes (sheet : List ℕ) (P Q : List ℕ → Type 0) (rs : List Run) 
 abbrev pub AnyImage : List ℕ → Type 0
 AnyImage img = Unit
 
+-- stores that depend on no image, where it is known what they lead to
+pub makes-from : {sheet : List ℕ} {P Q : List ℕ → Type 0} {rs : List Run} {xs : List Store} → Makes sheet AnyImage AnyImage rs xs →
+    ((img : List ℕ) → P img → Q (after img xs)) → Makes sheet P Q rs xs
+makes-from f q = record { same = λ img p. f .same img tt; final = q }
+
 infixl 20 _⨾_
 pub _⨾_ : {sheet : List ℕ} {P Q R : List ℕ → Type 0} {a b : List Run} {xs ys : List Store} → Makes sheet P Q a xs → Makes sheet Q R b ys → Makes sheet P R (a ++ b) (xs ++ ys)
 _⨾_ {sheet} {a} {b} {xs} {ys} f g = record {
@@ -36,7 +41,7 @@ _⨾_ {sheet} {a} {b} {xs} {ys} f g = record {
   final = λ img p. rw after-append (g .final (after img xs) (f .final img p));
 }
 
--- no runs, and runs of no words
+-- no runs
 pub makes-none : {sheet : List ℕ} {P : List ℕ → Type 0} → Makes sheet P P [] []
 unfolding steps storesOf after
 makes-none = record { same = λ img p. refl; final = λ img p. p }

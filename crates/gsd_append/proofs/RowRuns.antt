@@ -114,12 +114,12 @@ module _ (sheet : List ℕ) (exact : Exact sheet) (o : Octets sheet) (p : Define
       ∙ words-append (p .body) (p .start) (up at (count i)) (up (p .start + bodyOffset rs (suc i)) more)) in
       rw joined at (row-stored i l ⨾ rows-stored n (suc i) (omega arith))
 
-  pub data-stored : Makes sheet AnyImage AnyImage (tab (bodyRun c) 0 (length rs)) (storeData p)
+  pub data-stored : c .rows ≡ length rs → Makes sheet AnyImage AnyImage (tab (bodyRun c) 0 (c .rows)) (storeData p)
   unfolding storeData
-  data-stored =
+  data-stored e =
       let start : p .start + bodyOffset rs 0 ≡ p .start = omega (arith, offset-first rs) in
       let total : (length (bodies rs) - bodyOffset rs 0) / 8 ≡ length (p .body) / 8 = omega (arith, offset-first rs, ap length whole) in
-      rw (start, total) at (rows-stored (length rs) 0 (omega arith))
+      rw (start, total) at (rows-stored (c .rows) 0 (omega arith))
 
 -- Step 4
 
