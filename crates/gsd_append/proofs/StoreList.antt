@@ -53,6 +53,9 @@ module _ {v : View} {rs : List Row} {p : Defined} (r : Accepted v rs p) where
   room-names : Room (named v p) (p .start) (length (p .body)) (namesDone p)
   room-names = room-named (v .names ++ p .fresh) room-roomy
 
+  pub names-even : nameBlock v p % 8 ≡ 0
+  names-even = chosen (λ k. k % 8 ≡ 0) (p .namesMove) (dataEnd p) (v .layout .namelist) (positions-even v rs p (r .plan) .0) (λ e. r .evenNames)
+
 module _ {x₀ : List ℕ} {v : View} {rs : List Row} {p : Defined} (r : Accepted v rs p) (is : Is x₀ v) (o : Octets x₀) (sheet : List ℕ) {h : Heads}
     (m : HeadsMatch v p h) where
   abbrev Stored : View → List ℕ → Type 0
@@ -119,9 +122,6 @@ module _ (x sheet : List ℕ) (ok : Valid x (rowsOf sheet)) (exact : Exact sheet
           written = rw (w .from, w .until) (record { text = name-text sheet exact (w .row) i; long = long; inside = name-inside sheet exact (w .row) i });
         })
 
-    names-even : nameBlock v p % 8 ≡ 0
-    names-even = chosen (λ k. k % 8 ≡ 0) (p .namesMove) (dataEnd p) (v .layout .namelist) (positions-even v rows p (r .plan) .0) (λ e. r .evenNames)
-
     data-made : Makes sheet (Stage x v (p .start) []) (Stage x v (p .start) (p .body)) (tab (bodyRun c) 0 (c .rows)) (storeData p)
     data-made =
         makes-from (data-stored sheet exact os p (r .plan .body) c (m .bodies) (m .rows))
@@ -132,7 +132,7 @@ module _ (x sheet : List ℕ) (ok : Valid x (rowsOf sheet)) (exact : Exact sheet
     names-made =
         subst (λ n. Makes sheet (Stage x (roomy v p) (p .start) (p .body)) (Stage x (named v p) (p .start) (p .body)) (tab (nameRun c) 0 n)
         (storeNames (nameBlock v p) (v .names) (p .fresh))) (sym (m .fresh))
-        (names-stored sheet os c (p .fresh) (roomy v p) 0 names-octets (r .plan .room .header) (room-roomy r .offNames) names-even (r .named) (r .plan .namesFit) new-name)
+        (names-stored sheet os c (p .fresh) (roomy v p) 0 names-octets (r .plan .room .header) (room-roomy r .offNames) (names-even r) (r .named) (r .plan .namesFit) new-name)
 
     entries-made : Makes sheet AnyImage AnyImage (tab (entryRun c) 0 (4 * c .rows)) (storeEntries (indexBlock v p + 32 * length (v .entries)) (p .entries))
     entries-made =
