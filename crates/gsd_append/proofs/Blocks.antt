@@ -1,5 +1,5 @@
 -- Steps 1, 3 and 5 of an append, run by run: both blocks are cleared behind their lists, and a block that does not suffice moves.
-use Prim.Native.Nat.{ℕ, zero, suc, _+_, _*_, _-_, _/_, _%_, _≤_, _<_, min}
+use Prim.Native.Nat.{ℕ, _+_, _*_, _-_, _%_, _≤_, _<_, min}
 use mathlib.Core.Path.{_≡_, refl, sym, _∙_, ap}
 use mathlib.Core.Bool.{Bool, true, false}
 use mathlib.Core.Logic.{inl, inr}
@@ -10,12 +10,12 @@ use lib.ListN.{length, getD, take, List·getD-eq-default}
 use Rattle.gsd_format.specs.Bytes.{le, leBytes}
 use Rattle.gsd_format.specs.Names.{flat}
 use Rattle.gsd_format.proofs.Bytes.{Octets, Text, zero-le}
-use Rattle.gsd_stores.specs.Stores.{Store, after, eightOf, words, up}
-use Rattle.gsd_stores.specs.View.{View, entriesEnd, namesEnd, namelistEnd}
+use Rattle.gsd_stores.specs.Stores.{after, eightOf, words, up}
+use Rattle.gsd_stores.specs.View.{View, entriesEnd, namesEnd}
 use Rattle.gsd_stores.specs.Plan.{Plan as Defined}
 use Rattle.gsd_stores.specs.Steps.{clearIndex, clearNames, moved}
 use Rattle.gsd_stores.proofs.Stores.{words-append, up-cut}
-use Rattle.gsd_stores.proofs.View.{Is, Base, IndexClear, Stage}
+use Rattle.gsd_stores.proofs.View.{Base, IndexClear, Stage}
 use Rattle.gsd_stores.proofs.Clear.{clear-index, clear-names}
 use Rattle.gsd_append.specs.declared.run.Run.{Run}
 use Rattle.gsd_append.specs.declared.plan.Heads.{Heads}

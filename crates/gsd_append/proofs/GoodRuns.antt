@@ -1,6 +1,6 @@
 -- Every run of a plan that matches an accepted append is good: it keeps to the image and to the sheet.
-use Prim.Native.Nat.{ℕ, zero, suc, _+_, _*_, _-_, _/_, _%_, _≤_, _<_, min}
-use mathlib.Core.Path.{_≡_, refl, sym, _∙_, ap}
+use Prim.Native.Nat.{ℕ, zero, suc, _+_, _*_, _-_, _/_, _%_, _≤_, _<_}
+use mathlib.Core.Path.{_≡_, refl, ap}
 use mathlib.Core.Bool.{Bool, true, false, cond}
 use mathlib.Core.List.{List, [], _∷_, _++_}
 use native.Mathlib.Omega.{arith}
@@ -9,23 +9,22 @@ use Rattle.gsd_format.specs.Header.{greatestLength}
 use Rattle.gsd_format.specs.Names.{flat}
 use Rattle.gsd_format.proofs.Lists.{Each, each-at, each-append}
 use Rattle.gsd_format.proofs.Names.{flat-none, flat-size, flat-sizes}
-use Rattle.gsd_stores.specs.View.{View, viewOf, entriesEnd, namesEnd, namelistEnd}
+use Rattle.gsd_stores.specs.View.{View, viewOf, entriesEnd, namesEnd}
 use Rattle.gsd_stores.specs.Sheet.{Row, rowsOf, rowCount, tableEnd}
 use Rattle.gsd_stores.specs.Plan.{Plan as Defined, planOf, dataEnd, namesDone}
-use Rattle.gsd_stores.specs.Steps.{nameBlock, indexBlock}
+use Rattle.gsd_stores.specs.Steps.{nameBlock}
 use Rattle.gsd_stores.specs.Demand3.{noRow}
 use Rattle.gsd_stores.proofs.Sheet.{nameAt, bodyAt, Exact, rows-count, name-length, name-inside, body-length, body-inside, start-next}
 use Rattle.gsd_stores.proofs.Rows.{offset-inside, new-names, new-few}
-use Rattle.gsd_stores.proofs.Plan.{positions, chosen, segmentsAfter, entries-count}
+use Rattle.gsd_stores.proofs.Plan.{positions, segmentsAfter, entries-count}
 use Rattle.gsd_stores.proofs.View.{Is, is-long}
 use Rattle.gsd_stores.proofs.Valid.{Valid, Ready as Accepted, ready as ready-plan}
 use Rattle.gsd_stores.proofs.Shown.{opens-shown}
 use Rattle.gsd_append.specs.declared.run.Run.{Run}
-use Rattle.gsd_append.specs.declared.plan.Heads.{Heads}
 use Rattle.gsd_append.specs.declared.plan.Plan.{Plan}
 use Rattle.gsd_append.specs.Exec.{Good, steps}
 use Rattle.gsd_append.specs.Runs.{number, none, body, name, bodyRun, nameRun, ofFour, entryRun, tab, clears, block, slots, runsOf, Ready}
-use Rattle.gsd_append.specs.Matches.{copied, ifMoved, endWord, wordsBehind, nameWords, HeadsMatch, BodyMatch, NameMatch, Matches}
+use Rattle.gsd_append.specs.Matches.{copied, ifMoved, nameWords, HeadsMatch, NameMatch, Matches}
 use Rattle.gsd_append.proofs.Steps.{stepsFrom-length}
 use Rattle.gsd_append.proofs.Runs.{runs-length}
 use Rattle.gsd_append.proofs.StoreList.{names-even}

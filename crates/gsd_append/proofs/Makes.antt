@@ -1,15 +1,13 @@
 -- Runs that make a list of stores, from every image of a kind, joined one behind the other.
-use Prim.Native.Nat.{ℕ, zero, suc, _+_, _*_, _-_, _/_, _≤_, _<_}
+use Prim.Native.Nat.{ℕ}
 use mathlib.Core.Path.{_≡_, refl, sym, _∙_, ap}
-use mathlib.Core.List.{List, [], _∷_, _++_}
-use native.Mathlib.Omega.{arith}
+use mathlib.Core.List.{List, [], _++_}
 use lib.ListN.{length, take}
 use lib.Seq.{take-length}
 use Rattle.gsd_stores.specs.Stores.{Store, after}
 use Rattle.gsd_stores.proofs.Stores.{after-append}
 use Rattle.gsd_append.specs.declared.run.Run.{Run}
 use Rattle.gsd_append.specs.Exec.{Step, steps, exec, storesOf}
-use Rattle.gsd_append.specs.Runs.{none}
 use Rattle.gsd_append.proofs.Steps.{steps-append, storesOf-append, storesOf-length, exec-after}
 
 pub exec-all : (sheet img : List ℕ) (ss : List Step) → exec sheet img ss ≡ after img (storesOf sheet img ss)

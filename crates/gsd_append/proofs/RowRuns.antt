@@ -1,6 +1,6 @@
 -- Steps 2, 4 and 6 of an append, run by run: the data of each row, the new names, and the new entries.
 use Prim.Native.Nat.{ℕ, zero, suc, _+_, _*_, _-_, _/_, _%_, _≤_, _<_}
-use mathlib.Core.Path.{_≡_, refl, sym, _∙_, ap}
+use mathlib.Core.Path.{_≡_, sym, _∙_, ap}
 use mathlib.Core.List.{List, [], _∷_, _++_, append-assoc, append-nil}
 use native.Mathlib.Nat.{add-zero, zero-add}
 use native.Mathlib.Omega.{arith}
@@ -17,17 +17,17 @@ use Rattle.gsd_format.proofs.Bytes.{Octets, Text, Apart, le-two, le-four, le-ei
 use Rattle.gsd_format.proofs.Lists.{Each}
 use Rattle.gsd_format.proofs.Names.{Named, flat-size, flat-more}
 use Rattle.gsd_format.proofs.Entries.{Fits}
-use Rattle.gsd_stores.specs.Stores.{Store, words, up, down, slotsDown}
+use Rattle.gsd_stores.specs.Stores.{words, up, down, slotsDown}
 use Rattle.gsd_stores.specs.View.{View, namesEnd, namelistEnd}
 use Rattle.gsd_stores.specs.Sheet.{Row, rowsOf, rowCount, tableEnd}
-use Rattle.gsd_stores.specs.Plan.{Plan as Defined, padded, bodies}
+use Rattle.gsd_stores.specs.Plan.{Plan as Defined, bodies}
 use Rattle.gsd_stores.specs.Steps.{storeData, storeName, storeNames, indexBytes, storeEntries}
 use Rattle.gsd_stores.specs.Demand3.{noRow}
 use Rattle.gsd_stores.proofs.Stores.{words-append, up-append}
 use Rattle.gsd_stores.proofs.View.{withNames, is-long, Stage}
 use Rattle.gsd_stores.proofs.NewNames.{one-name}
 use Rattle.gsd_stores.proofs.NewEntries.{index-entry}
-use Rattle.gsd_stores.proofs.Sheet.{rowAt, nameAt, bodyAt, Exact, rows-count, body-length, body-text, start-next}
+use Rattle.gsd_stores.proofs.Sheet.{nameAt, bodyAt, Exact, rows-count, body-length, body-text, start-next}
 use Rattle.gsd_stores.proofs.Rows.{padded-length, padded-byte, bodies-even, bodyOffset, offset-first, offset-next, offset-even, offset-inside, offset-last, bodies-text}
 use Rattle.gsd_append.specs.declared.run.Run.{Run}
 use Rattle.gsd_append.specs.declared.plan.Plan.{Plan}

@@ -1,24 +1,22 @@
 -- The stores that the runs of a plan make one after the other are the append's store list.
-use Prim.Native.Nat.{ℕ, zero, suc, _+_, _*_, _-_, _/_, _%_, _≤_, _<_, min}
-use mathlib.Core.Path.{_≡_, refl, sym, _∙_, ap, subst}
-use mathlib.Core.Bool.{Bool, true, false}
-use mathlib.Core.List.{List, [], _∷_, _++_}
+use Prim.Native.Nat.{ℕ, _+_, _*_, _-_, _%_, _≤_, _<_}
+use mathlib.Core.Path.{_≡_, sym, _∙_, ap, subst}
+use mathlib.Core.List.{List, [], _++_}
 use native.Mathlib.Nat.{zero-add}
 use native.Mathlib.Omega.{arith}
-use lib.ListN.{length, getD, take, List·getD-eq-default}
+use lib.ListN.{length, getD, take}
 use Rattle.gsd_format.specs.Bytes.{part}
 use Rattle.gsd_format.specs.Names.{flat}
-use Rattle.gsd_format.proofs.Bytes.{Octets, Text, part-length, part-at}
+use Rattle.gsd_format.proofs.Bytes.{Octets, part-length, part-at}
 use Rattle.gsd_format.proofs.Texts.{part-text}
-use Rattle.gsd_stores.specs.Stores.{Store, after}
-use Rattle.gsd_stores.specs.View.{View, viewOf, entriesEnd, namesEnd}
+use Rattle.gsd_stores.specs.View.{View, viewOf, entriesEnd}
 use Rattle.gsd_stores.specs.Sheet.{Row, rowsOf, rowCount}
 use Rattle.gsd_stores.specs.Plan.{Plan as Defined, planOf, dataEnd, namesDone}
 use Rattle.gsd_stores.specs.Steps.{moveNames, moveIndex, storeData, storeNames, storeEntries, nameBlock, indexBlock, stepsOf, storeList}
 use Rattle.gsd_stores.specs.Demand3.{noRow}
 use Rattle.gsd_stores.proofs.Sheet.{nameAt, bodyAt, Exact, rows-count, name-length, name-text, name-inside}
 use Rattle.gsd_stores.proofs.View.{Is, is-long, Base, base-start, Stage, Room, room-named}
-use Rattle.gsd_stores.proofs.Blocks.{theIndex, theNames}
+use Rattle.gsd_stores.proofs.Blocks.{theNames}
 use Rattle.gsd_stores.proofs.Plan.{chosen, positions, positions-even, entries-count}
 use Rattle.gsd_stores.proofs.Good.{roomy, named, ready, Good}
 use Rattle.gsd_stores.proofs.Move.{room-step, names-step, index-step}
@@ -36,6 +34,14 @@ use Rattle.gsd_append.proofs.Octets.{text-octets}
 use Rattle.gsd_append.proofs.Makes.{Makes, AnyImage, makes-from, _⨾_}
 use Rattle.gsd_append.proofs.Blocks.{lists-cleared, block-moved}
 use Rattle.gsd_append.proofs.RowRuns.{data-stored, NameAt, names-stored, entries-stored}
+
+-- the listed names are bytes
+names-octets : {x : List ℕ} {v : View} → Is x v → Octets x → Octets (flat (v .names))
+names-octets {x} {v} is o = text-octets x (v .layout .namelist) (flat (v .names)) o (is .names .each)
+
+-- the stages of an append that began at x, from the data on
+abbrev Stored : List ℕ → Defined → View → List ℕ → Type 0
+Stored x p u = Stage x u (p .start) (p .body)
 
 -- Steps 3 and 5
 
@@ -58,21 +64,17 @@ module _ {v : View} {rs : List Row} {p : Defined} (r : Accepted v rs p) where
 
 module _ {x₀ : List ℕ} {v : View} {rs : List Row} {p : Defined} (r : Accepted v rs p) (is : Is x₀ v) (o : Octets x₀) (sheet : List ℕ) {h : Heads}
     (m : HeadsMatch v p h) where
-  abbrev Stored : View → List ℕ → Type 0
-  Stored u = Stage x₀ u (p .start) (p .body)
-
-  names-moved : Makes sheet (Stored v) (Stored (roomy v p)) (block h) (moveNames v p)
+  names-moved : Makes sheet (Stored x₀ p v) (Stored x₀ p (roomy v p)) (block h) (moveNames v p)
   unfolding moveNames
   names-moved =
       rw (m .copyNames, m .clearBlock, m .word24, m .word32)
       (block-moved sheet (p .namesMove) (v .layout .namelist) (dataEnd p) (nameWords v) (8 * p .segments) (flat (v .names)) 24 (p .segments)
-      (text-octets x₀ (v .layout .namelist) (flat (v .names)) o (is .names .each))
-      (omega (arith, is .names .few, room-before r .names)) (omega arith) (omega (arith, is .names .few, r .plan .twiceSegments))
+      (names-octets is o) (omega (arith, is .names .few, room-before r .names)) (omega arith) (omega (arith, is .names .few, r .plan .twiceSegments))
       (λ img s. s .base .is .names .each)
       (names-step {x₀ = x₀} {W = AnyImage} (p .namesMove) (dataEnd p) (p .segments) (room-before r) (plan-good r .moreSegments) (omega (arith, positions p .1, plan-good r .fits))
       (λ y b. tt) (λ y b. tt) .final))
 
-  index-moved : Makes sheet (Stored (named v p)) (Stored (ready v p)) (slots h) (moveIndex x₀ v p)
+  index-moved : Makes sheet (Stored x₀ p (named v p)) (Stored x₀ p (ready v p)) (slots h) (moveIndex x₀ v p)
   unfolding moveIndex
   index-moved =
       let count : ℕ = length (v .entries) in
@@ -108,9 +110,6 @@ module _ (x sheet : List ℕ) (ok : Valid x (rowsOf sheet)) (exact : Exact sheet
   is : Is x v
   is = opens-shown x (ok .opens)
 
-  names-octets : Octets (flat (v .names))
-  names-octets = text-octets x (v .layout .namelist) (flat (v .names)) ox (is .names .each)
-
   module _ (m : Matches v sheet p c) where
     new-name : (j : ℕ) → j < length (p .fresh) → NameAt sheet c (0 + j) (nameBlock v p + length (flat (v .names ++ take j (p .fresh)))) (getD (p .fresh) j [])
     new-name j l =
@@ -122,17 +121,15 @@ module _ (x sheet : List ℕ) (ok : Valid x (rowsOf sheet)) (exact : Exact sheet
           written = rw (w .from, w .until) (record { text = name-text sheet exact (w .row) i; long = long; inside = name-inside sheet exact (w .row) i });
         })
 
-    data-made : Makes sheet (Stage x v (p .start) []) (Stage x v (p .start) (p .body)) (tab (bodyRun c) 0 (c .rows)) (storeData p)
+    data-made : Makes sheet (Stage x v (p .start) []) (Stored x p v) (tab (bodyRun c) 0 (c .rows)) (storeData p)
     data-made =
         makes-from (data-stored sheet exact os p (r .plan .body) c (m .bodies) (m .rows))
         (store-data {x₀ = x} {W = AnyImage} {v = v} (λ y b. tt) p (plan-good r .room) (r .evenBody) (omega (arith, positions p, r .fits)) .final)
 
-    names-made : Makes sheet (Stage x (roomy v p) (p .start) (p .body)) (Stage x (named v p) (p .start) (p .body)) (tab (nameRun c) 0 (c .fresh))
-        (storeNames (nameBlock v p) (v .names) (p .fresh))
+    names-made : Makes sheet (Stored x p (roomy v p)) (Stored x p (named v p)) (tab (nameRun c) 0 (c .fresh)) (storeNames (nameBlock v p) (v .names) (p .fresh))
     names-made =
-        subst (λ n. Makes sheet (Stage x (roomy v p) (p .start) (p .body)) (Stage x (named v p) (p .start) (p .body)) (tab (nameRun c) 0 n)
-        (storeNames (nameBlock v p) (v .names) (p .fresh))) (sym (m .fresh))
-        (names-stored sheet os c (p .fresh) (roomy v p) 0 names-octets (r .plan .room .header) (room-roomy r .offNames) (names-even r) (r .named) (r .plan .namesFit) new-name)
+        subst (λ n. Makes sheet (Stored x p (roomy v p)) (Stored x p (named v p)) (tab (nameRun c) 0 n) (storeNames (nameBlock v p) (v .names) (p .fresh))) (sym (m .fresh))
+        (names-stored sheet os c (p .fresh) (roomy v p) 0 (names-octets is ox) (r .plan .room .header) (room-roomy r .offNames) (names-even r) (r .named) (r .plan .namesFit) new-name)
 
     entries-made : Makes sheet AnyImage AnyImage (tab (entryRun c) 0 (4 * c .rows)) (storeEntries (indexBlock v p + 32 * length (v .entries)) (p .entries))
     entries-made =
@@ -142,7 +139,7 @@ module _ (x sheet : List ℕ) (ok : Valid x (rowsOf sheet)) (exact : Exact sheet
     all-made : Makes sheet (Base x v) AnyImage (runsOf c) (stepsOf x v p)
     unfolding runsOf stepsOf
     all-made =
-        lists-cleared sheet (m .heads) (p .start) names-octets (r .evenNames)
+        lists-cleared sheet (m .heads) (p .start) (names-octets is ox) (r .evenNames)
         ⨾ data-made
         ⨾ names-moved r is ox sheet (m .heads)
         ⨾ names-made
