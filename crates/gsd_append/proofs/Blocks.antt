@@ -1,5 +1,5 @@
 -- Steps 1, 3 and 5 of an append, run by run: both blocks are cleared behind their lists, and a block that does not suffice moves.
-use Prim.Native.Nat.{ℕ, zero, suc, _+_, _*_, _-_, _/_, _%_, _≤_, _<_, min}
+use Prim.Native.Nat.{ℕ, _+_, _*_, _-_, _%_, _≤_, _<_, min}
 use mathlib.Core.Path.{_≡_, refl, sym, _∙_, ap}
 use mathlib.Core.Bool.{Bool, true, false}
 use mathlib.Core.Logic.{inl, inr}
@@ -10,12 +10,12 @@ use lib.ListN.{length, getD, take, List·getD-eq-default}
 use Rattle.gsd_format.specs.Bytes.{le, leBytes}
 use Rattle.gsd_format.specs.Names.{flat}
 use Rattle.gsd_format.proofs.Bytes.{Octets, Text, zero-le}
-use Rattle.gsd_stores.specs.Stores.{Store, after, eightOf, words, up}
-use Rattle.gsd_stores.specs.View.{View, entriesEnd, namesEnd, namelistEnd}
+use Rattle.gsd_stores.specs.Stores.{after, eightOf, words, up}
+use Rattle.gsd_stores.specs.View.{View, entriesEnd, namesEnd}
 use Rattle.gsd_stores.specs.Plan.{Plan as Defined}
 use Rattle.gsd_stores.specs.Steps.{clearIndex, clearNames, moved}
 use Rattle.gsd_stores.proofs.Stores.{words-append, up-cut}
-use Rattle.gsd_stores.proofs.View.{Is, Base, IndexClear, Stage}
+use Rattle.gsd_stores.proofs.View.{Base, IndexClear, Stage}
 use Rattle.gsd_stores.proofs.Clear.{clear-index, clear-names}
 use Rattle.gsd_append.specs.declared.run.Run.{Run}
 use Rattle.gsd_append.specs.declared.plan.Heads.{Heads}
@@ -23,12 +23,13 @@ use Rattle.gsd_append.specs.Exec.{placeOf, wordOf, stepsFrom, steps, sto
 use Rattle.gsd_append.specs.Runs.{number, clears}
 use Rattle.gsd_append.specs.Matches.{copied, ifMoved, endWord, wordsBehind, HeadsMatch}
 use Rattle.gsd_append.proofs.Words.{cut-before, cut-behind, place-other, word-number}
+use Rattle.gsd_append.proofs.Octets.{no-octets}
 use Rattle.gsd_append.proofs.RunWords.{number-stores, copied-stores}
 use Rattle.gsd_append.proofs.Makes.{Makes, AnyImage, _⨾_}
 
 -- A text in an image, cut off at its end; the zeros behind it
 
-text-cut : (x : List ℕ) (at : ℕ) (t : List ℕ) (until p : ℕ) → Text x at t → until ≡ at + length t → at ≤ p → getD (take until x) p 0 ≡ getD t (p - at) 0
+pub text-cut : (x : List ℕ) (at : ℕ) (t : List ℕ) (until p : ℕ) → Text x at t → until ≡ at + length t → at ≤ p → getD (take until x) p 0 ≡ getD t (p - at) 0
 text-cut x at t until p h e l = go (decLt p until)
   where
     go : Dec (p < until) → getD (take until x) p 0 ≡ getD t (p - at) 0
@@ -37,9 +38,6 @@ text-cut x at t until p h e l = go (decLt p until)
 
 zero-behind : (t : List ℕ) (i : ℕ) → length t ≤ i → 0 ≡ le 8 t i
 zero-behind t i h = sym (zero-le 8 t i (λ k l. List·getD-eq-default t 0 (omega arith)))
-
-no-bytes : Octets []
-no-bytes i = omega arith
 
 -- zeros in words behind a text
 zero-stores : (sheet t : List ℕ) (base to n : ℕ) → Octets t → (0 < n → base + length t ≤ to) → Makes sheet AnyImage AnyImage (number to n 0 ∷ []) (words t base (up to n))
@@ -67,7 +65,7 @@ module _ {x₀ : List ℕ} {v : View} {p : Defined} {h : Heads} (sheet : List �
   index-cleared : Makes sheet (Base x₀ v) (λ x. Base x₀ v x × IndexClear v x) (h .«clear_index» ∷ []) (clearIndex v)
   unfolding clearIndex
   index-cleared = record {
-    same = λ img b. rw (m .clearIndex) (zero-stores sheet [] 0 (entriesEnd v) (4 * (v .layout .slots - length (v .entries))) no-bytes (λ l. omega arith) .same img tt);
+    same = λ img b. rw (m .clearIndex) (zero-stores sheet [] 0 (entriesEnd v) (4 * (v .layout .slots - length (v .entries))) no-octets (λ l. omega arith) .same img tt);
     final = clear-index {x₀ = x₀} {W = AnyImage} {v = v} (λ y b. tt) .final;
   }
 

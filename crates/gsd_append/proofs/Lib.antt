@@ -1,6 +1,7 @@
 -- Laws of runs, their steps and their stores.
 pub mod Words
 pub mod Steps
+pub mod Octets
 pub mod RunWords
 pub mod Makes
 pub mod Blocks
@@ -9,3 +10,9 @@ pub mod SitesMatch
 -- Laws that the append's proofs cite.
 pub mod SheetRows
 pub mod Filling
+pub mod RowRuns
+pub mod StoreList
+pub mod Runs
+pub mod Turns
+pub mod GoodRuns
+pub mod Appends

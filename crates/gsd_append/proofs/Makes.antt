@@ -1,15 +1,13 @@
 -- Runs that make a list of stores, from every image of a kind, joined one behind the other.
-use Prim.Native.Nat.{ℕ, zero, suc, _+_, _*_, _-_, _/_, _≤_, _<_}
+use Prim.Native.Nat.{ℕ}
 use mathlib.Core.Path.{_≡_, refl, sym, _∙_, ap}
-use mathlib.Core.List.{List, [], _∷_, _++_}
-use native.Mathlib.Omega.{arith}
+use mathlib.Core.List.{List, [], _++_}
 use lib.ListN.{length, take}
 use lib.Seq.{take-length}
 use Rattle.gsd_stores.specs.Stores.{Store, after}
 use Rattle.gsd_stores.proofs.Stores.{after-append}
 use Rattle.gsd_append.specs.declared.run.Run.{Run}
 use Rattle.gsd_append.specs.Exec.{Step, steps, exec, storesOf}
-use Rattle.gsd_append.specs.Runs.{none}
 use Rattle.gsd_append.proofs.Steps.{steps-append, storesOf-append, storesOf-length, exec-after}
 
 pub exec-all : (sheet img : List ℕ) (ss : List Step) → exec sheet img ss ≡ after img (storesOf sheet img ss)
@@ -25,6 +23,11 @@ pub record Makes (sheet : List ℕ) (P Q : List ℕ → Type 0) (rs : List Run) 
 abbrev pub AnyImage : List ℕ → Type 0
 AnyImage img = Unit
 
+-- stores that depend on no image, where it is known what they lead to
+pub makes-from : {sheet : List ℕ} {P Q : List ℕ → Type 0} {rs : List Run} {xs : List Store} → Makes sheet AnyImage AnyImage rs xs →
+    ((img : List ℕ) → P img → Q (after img xs)) → Makes sheet P Q rs xs
+makes-from f q = record { same = λ img p. f .same img tt; final = q }
+
 infixl 20 _⨾_
 pub _⨾_ : {sheet : List ℕ} {P Q R : List ℕ → Type 0} {a b : List Run} {xs ys : List Store} → Makes sheet P Q a xs → Makes sheet Q R b ys → Makes sheet P R (a ++ b) (xs ++ ys)
 _⨾_ {sheet} {a} {b} {xs} {ys} f g = record {
@@ -36,7 +39,7 @@ _⨾_ {sheet} {a} {b} {xs} {ys} f g = record {
   final = λ img p. rw after-append (g .final (after img xs) (f .final img p));
 }
 
--- no runs, and runs of no words
+-- no runs
 pub makes-none : {sheet : List ℕ} {P : List ℕ → Type 0} → Makes sheet P P [] []
 unfolding steps storesOf after
 makes-none = record { same = λ img p. refl; final = λ img p. p }

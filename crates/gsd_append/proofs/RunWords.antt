@@ -9,11 +9,11 @@ use native.Mathlib.Omega.{arith}
 use lib.ListN.{length, getD, set, take, length-set}
 use lib.Seq.{ext-getD, getD-set-same, getD-set-other, set-out}
 use Rattle.gsd_format.specs.Bytes.{le, leBytes, part, stored}
-use Rattle.gsd_format.proofs.Bytes.{Octets, le-same, leBytes-length, stored-length, stored-below, stored-inside, stored-above}
-use Rattle.gsd_stores.specs.Stores.{Store, eightOf, words, up, down}
+use Rattle.gsd_format.proofs.Bytes.{Octets, le-same, leBytes-length, stored-length, stored-below}
+use Rattle.gsd_stores.specs.Stores.{eightOf, words, up, down}
 use Rattle.gsd_stores.proofs.Stores.{eight-at}
 use Rattle.gsd_append.specs.declared.run.Run.{Run}
-use Rattle.gsd_append.specs.Exec.{placeOf, over, textOf, sourceOf, wordOf, applied, stepsFrom, steps, storesOf}
+use Rattle.gsd_append.specs.Exec.{placeOf, over, wordOf, applied, stepsFrom, steps, storesOf}
 use Rattle.gsd_append.specs.Runs.{number, body, name}
 use Rattle.gsd_append.specs.Matches.{copied}
 use Rattle.gsd_append.proofs.Words.{cut-before, cut-behind, place-name, place-other, source-name, source-other, text-image, text-sheet, text-name, word-number, word-read}

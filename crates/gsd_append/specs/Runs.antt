@@ -36,13 +36,15 @@ ofFour a b c d (suc zero) = b
 ofFour a b c d (suc (suc zero)) = c
 ofFour a b c d (suc (suc (suc i))) = d
 
--- The k-th store of the entries, which go from the last slot to the first. In each slot the words at 0, 8 and 24 come
--- first and the location, which shows the entry, last
+-- The i-th word to be stored of the entry at a place: those at 0, 8 and 24, and last the location, which shows the entry
+abbrev pub entry : ℕ → ℕ → ℕ → ℕ → ℕ → ℕ → Run
+entry at i frame n meta location = number (at + ofFour 0 8 24 16 i) 1 (ofFour frame n meta location i)
+
+-- the k-th word of all entries, from the last slot to the first
 unfoldable pub entryRun : Plan → ℕ → Run
 entryRun p k =
     let s : ℕ = p .rows - 1 - k / 4 in
-    number (p .slot + 32 * s + ofFour 0 8 24 16 (k % 4)) 1
-    (ofFour (p .frame) (getD (p .n) s 0) (getD (p .meta) s 0) (getD (p .location) s 0) (k % 4))
+    entry (p .slot + 32 * s) (k % 4) (p .frame) (getD (p .n) s 0) (getD (p .meta) s 0) (getD (p .location) s 0)
 
 -- f i, f (i + 1), .., n of them
 unfoldable pub tab : (ℕ → Run) → ℕ → ℕ → List Run
@@ -67,6 +69,29 @@ runsOf p =
     ++ tab (nameRun p) 0 (p .fresh)
     ++ slots (p .heads)
     ++ tab (entryRun p) 0 (4 * p .rows)
+
+-- a plan by its parts
+abbrev pub planFrom : ℕ → ℕ → Heads → List ℕ → List ℕ → List ℕ → List ℕ → List ℕ → List ℕ → ℕ → ℕ → List ℕ → List ℕ → List ℕ → Plan
+planFrom rows fresh heads bodyTo bodyFrom bodyUntil nameAt nameFrom nameUntil slot frame n meta location = record {
+  rows = rows;
+  fresh = fresh;
+  heads = heads;
+  «body_to» = bodyTo;
+  «body_from» = bodyFrom;
+  «body_until» = bodyUntil;
+  «name_at» = nameAt;
+  «name_from» = nameFrom;
+  «name_until» = nameUntil;
+  slot = slot;
+  frame = frame;
+  n = n;
+  meta = meta;
+  location = location;
+}
+
+-- what no slice's length exceeds
+abbrev pub half : ℕ
+half = 9223372036854775808
 
 -- a plan that can be carried out on an image of n bytes with a sheet of m
 pub record Ready (n m : ℕ) (p : Plan) : Type 0 where

@@ -1,0 +1,57 @@
+-- An accepted append, carried out by a plan that matches it: every prefix of the plan's steps leaves what so many of the append's
+-- stores leave, and a turn from the beginning is the append.
+use Prim.Native.Nat.{ℕ, min}
+use mathlib.Core.Path.{_≡_, sym, _∙_, ap}
+use mathlib.Core.List.{List}
+use native.Mathlib.Omega.{arith}
+use lib.ListN.{length, take}
+use Rattle.gsd_format.proofs.Bytes.{Octets}
+use Rattle.gsd_format.proofs.Refusals.{both}
+use Rattle.gsd_stores.specs.Stores.{after}
+use Rattle.gsd_stores.specs.View.{viewOf}
+use Rattle.gsd_stores.specs.Sheet.{rowsOf}
+use Rattle.gsd_stores.specs.Plan.{planOf}
+use Rattle.gsd_stores.specs.Append.{appendTest, storesFor, appended}
+use Rattle.gsd_stores.proofs.Sheet.{Exact, accepted}
+use Rattle.gsd_stores.proofs.Valid.{valid}
+use Rattle.gsd_append.specs.declared.plan.Plan.{Plan}
+use Rattle.gsd_append.specs.declared.turn.Turned.{Turned}
+use Rattle.gsd_append.specs.Exec.{steps, exec, storesOf}
+use Rattle.gsd_append.specs.Runs.{runsOf, Ready}
+use Rattle.gsd_append.specs.Turns.{ahead, Cursor, TurnSays}
+use Rattle.gsd_append.specs.Matches.{Matches}
+use Rattle.gsd_append.proofs.Steps.{steps-rest, exec-after, storesOf-length}
+use Rattle.gsd_append.proofs.StoreList.{stores-listed}
+use Rattle.gsd_append.proofs.GoodRuns.{plan-ready}
+
+accepted-exact : (x sheet : List ℕ) → appendTest x sheet ≡ 0 → Exact sheet
+unfolding appendTest
+accepted-exact x sheet h = accepted sheet (both _ _ (both _ _ (both _ _ h .1) .1) .0) .exact
+
+-- the cursor at the beginning
+pub cursor-start : (c : Plan) → Cursor c 0 0
+cursor-start c = record { run = omega arith; word = omega arith }
+
+module _ (x sheet : List ℕ) (ok : appendTest x sheet ≡ 0) (ox : Octets x) (os : Octets sheet) (c : Plan)
+    (m : Matches (viewOf x) sheet (planOf (viewOf x) (rowsOf sheet)) c) where
+  pub plan-stores : storesOf sheet x (steps (runsOf c)) ≡ storesFor x sheet
+  unfolding storesFor
+  plan-stores = rw (ok, storesFor) (stores-listed x sheet (valid x sheet os ok) (accepted-exact x sheet ok) ox os c m)
+
+  pub plan-count : length (steps (runsOf c)) ≡ length (storesFor x sheet)
+  plan-count = sym (storesOf-length sheet x (steps (runsOf c))) ∙ ap length plan-stores
+
+  pub plan-prefix : (k : ℕ) → exec sheet x (take k (steps (runsOf c))) ≡ after x (take k (storesFor x sheet))
+  plan-prefix k = exec-after sheet x (steps (runsOf c)) k ∙ ap (λ xs. after x (take k xs)) plan-stores
+
+  pub append-ready : Ready (length x) (length sheet) c
+  append-ready = plan-ready x sheet (valid x sheet os ok) (accepted-exact x sheet ok) c m
+
+  -- a turn from the beginning makes the first so many stores, as many as its limit lets it
+  pub turn-appends : (limit : ℕ) (t : Turned) (y : List ℕ) → TurnSays sheet x c 0 0 limit t y
+      → (t .made ≡ min limit (length (storesFor x sheet))) × (y ≡ appended x sheet limit)
+  unfolding appended
+  turn-appends limit t y h =
+      let all : ahead c 0 0 ≡ steps (runsOf c) = sym (steps-rest (runsOf c)) in
+      let made : t .made ≡ min limit (length (storesFor x sheet)) = h .made ∙ ap (λ n. min limit n) (ap length all ∙ plan-count) in
+      (made, h .walked .image ∙ ap (λ ss. exec sheet x (take (t .made) ss)) all ∙ plan-prefix (t .made) ∙ ap (λ k. after x (take k (storesFor x sheet))) made)
