@@ -7,19 +7,23 @@ use native.Mathlib.Nat.{mul-assoc, mul-le-mul, div-lt-iff-lt-mul}
 use native.Mathlib.Numerals.{add-one}
 use native.Mathlib.Decide.{decLt}
 use native.Mathlib.Omega.{arith}
-use lib.ListN.{length, getD, set}
-use lib.Seq.{getD-set-same, getD-set-other}
+use lib.ListN.{length, getD, set, drop, drop-of-length-le, length-map, List·getD-map}
+use lib.Seq.{drop-cons, getD-set-same, getD-set-other}
 use lib.Dec.{ltb, eqb}
 use borrow.Author.Count.{below-more}
 use borrow.Author.Tests.{ltb-true, ltb-false, lt-ltb, le-ltb, eq-eqb, ne-eqb}
-use Rattle.gsd_format.specs.Bytes.{le}
+use Rattle.gsd_format.specs.Bytes.{le, part, zeroIn}
 use Rattle.gsd_format.specs.Types.{sizeOf}
+use Rattle.gsd_format.specs.Names.{indexOf}
+use Rattle.gsd_format.specs.Opening.{twins}
 use Rattle.gsd_format.specs.Refusals.{_⇒_, _▹_}
 use Rattle.gsd_format.proofs.Refusals.{differ-no}
-use Rattle.gsd_stores.specs.Sheet.{rowKind, nameSize, bodySize, badRow, badTable, bodiesEnd, rowCount, tableEnd}
-use Rattle.gsd_stores.proofs.Sheet.{start-first, start-next, start-rises, bodies-end, rowAt, nameAt, Exact}
+use Rattle.gsd_format.proofs.Ids.{index-at, index-least, index-is, places-distinct, distinct-twins, twin-twins}
+use Rattle.gsd_stores.specs.Sheet.{rowKind, nameSize, bodySize, badRow, badTable, bodiesEnd, rowCount, tableEnd, rowsOf, anyZero}
+use Rattle.gsd_stores.specs.Demand3.{noRow}
+use Rattle.gsd_stores.proofs.Sheet.{start-first, start-next, start-rises, bodies-end, rowAt, nameAt, Exact, rows-count, row-at, name-inside, name-length, name-zero}
 use Rattle.gsd_append.specs.declared.sheet.SheetRows.{SheetRows}
-use Rattle.gsd_append.specs.SheetRows.{rowEnd, tableTest, endTest, Filled, Found}
+use Rattle.gsd_append.specs.SheetRows.{rowEnd, tableTest, endTest, sheetNames, nameOf, repeats, Filled, Located, Found}
 
 -- 24: a row's tests in their order
 module _ (s : List ℕ) (t : ℕ) where
@@ -126,3 +130,54 @@ filled-more {f} {l} {i} {v} h b e =
 -- a refusal has no rows to locate
 pub refused-found : (s : List ℕ) (k n : ℕ) (r : SheetRows) → k ≡ suc n → r .number ≡ suc n → Found s k r
 refused-found s k n r p e = record { number = e ∙ sym p; count = λ z. absurd (omega arith); rows = λ z. absurd (omega arith) }
+
+-- Names
+
+pub names-count : (s : List ℕ) → length (sheetNames s) ≡ rowCount s
+names-count s = length-map (rowsOf s) (λ r. r .name) ∙ rows-count s
+
+name-row : (s : List ℕ) (i : ℕ) → nameOf s i ≡ getD (rowsOf s) i noRow .name
+name-row s i = List·getD-map (λ r. r .name) (rowsOf s) i noRow
+
+module _ {s names bodies : List ℕ} (h : Located s names bodies) (i : ℕ) (l : i < rowCount s) where
+  pub located-size : getD bodies i 0 - getD names i 0 ≡ nameSize s (rowAt i)
+  located-size = omega (arith, h .name .at i (omega arith), h .body .at i l)
+
+  pub located-room : (getD names i 0 ≤ getD bodies i 0) × (getD bodies i 0 ≤ length s)
+  located-room = omega (arith, h .name .at i (omega arith), h .body .at i l, name-inside s (h .exact) i l)
+
+  pub located-name : nameOf s i ≡ part s (getD names i 0) (getD bodies i 0 - getD names i 0)
+  located-name = name-row s i ∙ ap (λ r. r .name) (row-at s i l) ∙ rw (located-size, h .name .at i (omega arith))
+
+  pub located-length : length (nameOf s i) ≡ getD bodies i 0 - getD names i 0
+  located-length = ap length (name-row s i) ∙ name-length s (h .exact) i l ∙ sym located-size
+
+  pub located-zero : zeroIn (nameOf s i) 0 (length (nameOf s i)) ≡ zeroIn s (getD names i 0) (getD bodies i 0 - getD names i 0)
+  located-zero = rw name-row (name-zero s (h .exact) i l ∙ rw (located-size, h .name .at i (omega arith)))
+
+-- 26: is there a zero in the names from the i-th on?
+pub zero-next : (ns : List (List ℕ)) (i : ℕ) → i < length ns
+    → anyZero (drop i ns) ≡ (zeroIn (getD ns i []) 0 (length (getD ns i [])) || anyZero (drop (i + 1) ns))
+unfolding anyZero
+zero-next ns i l = rw (add-one, drop-cons ns i [])
+
+pub zero-none : (ns : List (List ℕ)) (i : ℕ) → length ns ≤ i → anyZero (drop i ns) ≡ false
+unfolding anyZero
+zero-none ns i l = rw (drop-of-length-le ns l)
+
+-- 27: a name is repeated when one before it is the same
+pub repeats-yes : (ns : List (List ℕ)) (i j : ℕ) → j < i → i < length ns → getD ns j [] ≡ getD ns i [] → repeats ns i ≡ true
+repeats-yes ns i j m l e = lt-ltb (indexOf (getD ns i []) ns) i (omega (arith, index-least (getD ns i []) ns j (omega arith) e))
+
+pub repeats-no : (ns : List (List ℕ)) (i : ℕ) → i < length ns → ((j : ℕ) → j < i → getD ns j [] ≡ getD ns i [] → ⊥) → repeats ns i ≡ false
+repeats-no ns i l f = le-ltb (indexOf (getD ns i []) ns) i (omega (arith, index-is (getD ns i []) ns i l refl f))
+
+-- two names are the same when one is repeated
+pub twins-yes : (ns : List (List ℕ)) (i : ℕ) → i < length ns → repeats ns i ≡ true → twins ns ≡ true
+twins-yes ns i l h =
+    let m : indexOf (getD ns i []) ns < i = ltb-true _ _ h in
+    twin-twins ns (record { i = indexOf (getD ns i []) ns; j = i; before = m; inside = l; equal = index-at (getD ns i []) ns (omega arith) })
+
+pub twins-no : (ns : List (List ℕ)) → ((i : ℕ) → i < length ns → repeats ns i ≡ false) → twins ns ≡ false
+twins-no ns f = distinct-twins ns (places-distinct ns (λ i j m l e.
+    omega (arith, index-least (getD ns j []) ns i (omega arith) e, ltb-false (indexOf (getD ns j []) ns) j (f j l))))

@@ -1,20 +1,27 @@
 -- What the code finds in a sheet: its number, and where each row's name and data lie.
-use Prim.Native.Nat.{ℕ, _+_, _<_}
+use Prim.Native.Nat.{ℕ, _+_, _≤_, _<_}
 use mathlib.Core.Path.{_≡_}
-use mathlib.Core.Bool.{not, _||_}
-use mathlib.Core.List.{List}
+use mathlib.Core.Bool.{Bool, not, _||_}
+use mathlib.Core.List.{List, []}
 use lib.ListN.{length, getD}
 use lib.Dec.{ltb, eqb}
 use Rattle.gsd_format.specs.Refusals.{_⇒_, _▹_}
+use Rattle.gsd_format.specs.Names.{indexOf}
 use Rattle.gsd_format.specs.Opening.{twins}
 use Rattle.gsd_stores.specs.Sheet.{nameSize, bodySize, badTable, bodiesEnd, rowCount, tableEnd, rowsOf, rowNames, anyZero, mostRows}
-use Rattle.gsd_stores.specs.Demand3.{noRow}
 use Rattle.gsd_stores.proofs.Sheet.{nameAt, bodyAt, Exact}
 use Rattle.gsd_append.specs.declared.sheet.SheetRows.{SheetRows}
 
 -- where the row at t of the table ends, if its name begins at q
 abbrev pub rowEnd : List ℕ → ℕ → ℕ → ℕ
 rowEnd s t q = q + nameSize s t + bodySize s t
+
+-- the names of the rows, and that of row i
+abbrev pub sheetNames : List ℕ → List (List ℕ)
+sheetNames s = rowNames (rowsOf s)
+
+abbrev pub nameOf : List ℕ → ℕ → List ℕ
+nameOf s i = getD (sheetNames s) i []
 
 -- the sheet's test in three parts: 22 to 24, 25, 26 and 27
 unfoldable pub tableTest : List ℕ → ℕ
@@ -27,11 +34,11 @@ unfoldable pub endTest : List ℕ → ℕ
 endTest s = not (eqb (length s) (bodiesEnd s 4 (tableEnd s) (rowCount s))) ⇒ 25
 
 unfoldable pub namesTest : List ℕ → ℕ
-namesTest s = (anyZero (rowNames (rowsOf s)) ⇒ 26) ▹ (twins (rowNames (rowsOf s)) ⇒ 27)
+namesTest s = (anyZero (sheetNames s) ⇒ 26) ▹ (twins (sheetNames s) ⇒ 27)
 
--- the name of row i
-abbrev pub nameOf : List ℕ → ℕ → List ℕ
-nameOf s i = getD (rowsOf s) i noRow .name
+-- is the i-th name one of those before it?
+abbrev pub repeats : List (List ℕ) → ℕ → Bool
+repeats ns i = ltb (indexOf (getD ns i []) ns) i
 
 -- the first n numbers of l are f 0, f 1, ..
 pub record Filled (f : ℕ → ℕ) (l : List ℕ) (n : ℕ) : Type 0 where
@@ -39,6 +46,7 @@ pub record Filled (f : ℕ → ℕ) (l : List ℕ) (n : ℕ) : Type 0 where
 
 -- row i's name lies from names i to bodies i, its data from there to names (i + 1); the last ends with the sheet
 pub record Located (s names bodies : List ℕ) : Type 0 where
+  pub few : rowCount s ≤ mostRows
   pub exact : Exact s
   pub name : Filled (nameAt s) names (rowCount s + 1)
   pub body : Filled (bodyAt s) bodies (rowCount s)

@@ -6,11 +6,10 @@ ghost use lib.ListN.{length};
 ghost use lib.Dec.{ltb};
 ghost use Rattle.gsd_format.specs.Bytes.{le, same};
 ghost use Rattle.gsd_format.specs.Types.{sizeOf};
-ghost use Rattle.gsd_format.specs.Names.{indexOf};
 ghost use Rattle.gsd_format.specs.Opening.{twins};
-ghost use Rattle.gsd_stores.specs.Sheet.{rowKind, nameSize, badRow, badTable, rowCount, tableEnd, rowsOf, rowNames, anyZero, sheetTest};
+ghost use Rattle.gsd_stores.specs.Sheet.{rowKind, nameSize, badRow, badTable, rowCount, tableEnd, anyZero, sheetTest};
 ghost use Rattle.gsd_stores.proofs.Sheet.{rowAt};
-ghost use Rattle.gsd_append.specs.SheetRows.{rowEnd, tableTest, endTest, namesTest, Located, Found, nameOf};
+ghost use Rattle.gsd_append.specs.SheetRows.{rowEnd, tableTest, endTest, namesTest, Located, Found, sheetNames, nameOf, repeats};
 
 const MOST_ROWS: usize = 64;
 
@@ -186,8 +185,8 @@ fn place_rows(sheet: &[u8], count: usize) -> SheetRows
 
 // 26: is there a zero byte in one of the names?
 fn zero_named<'a>(sheet: &[u8], count: usize, names: &'a [usize; 65], bodies: &'a [usize; 64]) -> bool
-    requires { ⌜ Located (now sheet) (now names) (now bodies) × (count ≡ rowCount (now sheet)) × (count ≤ 64) ⌝ }
-    ensures { λ r. ⌜ r ≡ anyZero (rowNames (rowsOf (now (sheet .entry)))) ⌝ }
+    requires { ⌜ Located (now sheet) (now names) (now bodies) × (count ≡ rowCount (now sheet)) ⌝ }
+    ensures { λ r. ⌜ r ≡ anyZero (sheetNames (now (sheet .entry))) ⌝ }
 {
     let mut i = 0;
     while i < count {
@@ -207,7 +206,7 @@ fn same_name<'a>(
     i: usize,
     j: usize,
 ) -> bool
-    requires { ⌜ Located (now sheet) (now names) (now bodies) × (i < rowCount (now sheet)) × (j < rowCount (now sheet)) × (rowCount (now sheet) ≤ 64) ⌝ }
+    requires { ⌜ Located (now sheet) (now names) (now bodies) × (i < rowCount (now sheet)) × (j < rowCount (now sheet)) ⌝ }
     ensures { λ r. ⌜ r ≡ same (nameOf (now (sheet .entry)) i) (nameOf (now (sheet .entry)) j) ⌝ }
 {
     let a = names[i];
@@ -221,8 +220,8 @@ fn same_name<'a>(
 
 // Has a row before row i the same name?
 fn repeated<'a>(sheet: &[u8], names: &'a [usize; 65], bodies: &'a [usize; 64], i: usize) -> bool
-    requires { ⌜ Located (now sheet) (now names) (now bodies) × (i < rowCount (now sheet)) × (rowCount (now sheet) ≤ 64) ⌝ }
-    ensures { λ r. ⌜ r ≡ ltb (indexOf (nameOf (now (sheet .entry)) i) (rowNames (rowsOf (now (sheet .entry))))) i ⌝ }
+    requires { ⌜ Located (now sheet) (now names) (now bodies) × (i < rowCount (now sheet)) ⌝ }
+    ensures { λ r. ⌜ r ≡ repeats (sheetNames (now (sheet .entry))) i ⌝ }
 {
     let mut j = 0;
     while j < i {
@@ -236,8 +235,8 @@ fn repeated<'a>(sheet: &[u8], names: &'a [usize; 65], bodies: &'a [usize; 64], i
 
 // 27: have two rows the same name?
 fn twin_named<'a>(sheet: &[u8], count: usize, names: &'a [usize; 65], bodies: &'a [usize; 64]) -> bool
-    requires { ⌜ Located (now sheet) (now names) (now bodies) × (count ≡ rowCount (now sheet)) × (count ≤ 64) ⌝ }
-    ensures { λ r. ⌜ r ≡ twins (rowNames (rowsOf (now (sheet .entry)))) ⌝ }
+    requires { ⌜ Located (now sheet) (now names) (now bodies) × (count ≡ rowCount (now sheet)) ⌝ }
+    ensures { λ r. ⌜ r ≡ twins (sheetNames (now (sheet .entry))) ⌝ }
 {
     let mut i = 0;
     while i < count {
@@ -250,7 +249,7 @@ fn twin_named<'a>(sheet: &[u8], count: usize, names: &'a [usize; 65], bodies: &'
 }
 
 fn names_number<'a>(sheet: &[u8], count: usize, names: &'a [usize; 65], bodies: &'a [usize; 64]) -> u64
-    requires { ⌜ Located (now sheet) (now names) (now bodies) × (count ≡ rowCount (now sheet)) × (count ≤ 64) ⌝ }
+    requires { ⌜ Located (now sheet) (now names) (now bodies) × (count ≡ rowCount (now sheet)) ⌝ }
     ensures { λ r. ⌜ r ≡ namesTest (now (sheet .entry)) ⌝ }
 {
     if zero_named(sheet, count, names, bodies) {

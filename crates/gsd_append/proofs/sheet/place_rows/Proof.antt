@@ -127,6 +127,7 @@ returns-3 c =
       number = sym (exact-end s exact);
       count = λ z. search needs;
       rows = λ z. record {
+        few = search needs;
         exact = exact;
         name = filled-to (omega arith) (filled-more (filled-to (omega arith) (head .loop .inv .3)) (omega arith) (head .loop .inv .1 ∙ ap (nameAt s) (omega arith)));
         body = filled-to (omega arith) (head .loop .inv .4);

@@ -1,4 +1,10 @@
+use mathlib.Core.Path.{sym, _∙_, ap}
+use native.Mathlib.Omega.{arith}
+use lib.ListN.{length}
 use borrow.Author.Needs.{needs}
+use Rattle.gsd_format.proofs.Bytes.{ne-same}
+use Rattle.gsd_append.specs.SheetRows.{nameOf}
+use Rattle.gsd_append.proofs.SheetRows.{located-room, located-name, located-length}
 use Rattle.gsd_append.proofs.sheet.same_name.Statement.{statement}
 use Rattle.gsd_append.proofs.sheet.same_name.Tie as tie
 use Rattle.gsd_append.proofs.sheet.same_name.Reads as reads
@@ -31,7 +37,7 @@ element-copy-out-n c = search needs
 
 -- src/sheet.rt:215:13
 sub-n : tie.Need-sub-n
-sub-n c = ?
+sub-n c = let x = c .before .before .before .before in located-room (x .pre .0) (x .args .i) (omega arith) .0
 
 -- src/sheet.rt:216:8
 mul-if1 : tie.Need-mul-if1
@@ -43,19 +49,28 @@ element-copy-out-if1 c = search needs
 
 -- src/sheet.rt:216:8
 sub-if1 : tie.Need-sub-if1
-sub-if1 c = ?
+sub-if1 c = let x = c .before .before .before .before .before in located-room (x .pre .0) (x .args .j) (omega arith) .0
 
 -- src/sheet.rt:217:9
 returns : tie.Need-returns
-returns c = ?
+returns c =
+    let x = c .before .before .before .before .before .before in
+    let s = x .args .sheet .now in
+    sym (ne-same (nameOf s (x .args .i)) (nameOf s (x .args .j)) (λ e. c .if1 .taken
+    (sym (located-length (x .pre .0) (x .args .j) (omega arith)) ∙ sym (ap length e) ∙ located-length (x .pre .0) (x .args .i) (omega arith))))
 
 -- src/sheet.rt:219:5
 same-part-requires : tie.Need-same-part-requires
-same-part-requires c κs = ?
+same-part-requires c κs =
+    let x = c .before .before .before .before .before .before in
+    omega (arith, located-room (x .pre .0) (x .args .i) (omega arith), located-room (x .pre .0) (x .args .j) (omega arith))
 
 -- src/sheet.rt:203:1
 returns-2 : tie.Need-returns-2
-returns-2 c = ?
+returns-2 c =
+    let x = c .before .before .before .before .before .before .before in
+    c .same-part .ensures
+    ∙ rw (located-name (x .pre .0) (x .args .i) (omega arith), located-name (x .pre .0) (x .args .j) (omega arith), c .before .if1 .left)
 
 pub same-name-spec : {M : Type 1} → statement M
 same-name-spec =
