@@ -5,8 +5,10 @@ pub mod Bytes
 pub mod Texts
 pub mod Ids
 pub mod Names
+pub mod Types
 pub mod Entries
+pub mod Walk
 pub mod Verdict
 pub mod Lookup
-pub mod Types
 pub mod Create
+pub mod Elements

@@ -1,12 +1,13 @@
 -- The entry list: 32-byte entries from the start of the index block, one to a slot.
 -- It ends before the first entry with location 0, or at the last slot; bytes behind its end mean nothing.
-use Prim.Native.Nat.{ℕ, zero, suc, _+_, _*_}
+use Prim.Native.Nat.{ℕ, zero, suc, _+_, _*_, max}
 use mathlib.Core.List.{List, [], _∷_}
 use mathlib.Core.Bool.{true, false}
 use lib.ListN.{getD}
 use lib.Dec.{eqb}
 use Rattle.gsd_format.specs.declared.Entry.{Entry}
 use Rattle.gsd_format.specs.Bytes.{le}
+use Rattle.gsd_format.specs.Types.{chunkSize}
 use Rattle.gsd_format.specs.Header.{layoutOf}
 
 unfoldable pub entryAt : List ℕ → ℕ → Entry
@@ -40,3 +41,8 @@ framesFrom top (e ∷ es) = framesFrom (e .frame + 1) es
 -- the number of frames
 abbrev pub framesOf : List Entry → ℕ
 framesOf es = framesFrom 0 es
+
+-- where the last of the chunks ends, or 0 with no entries
+unfoldable pub chunksEnd : List Entry → ℕ
+chunksEnd [] = 0
+chunksEnd (e ∷ es) = max (e .location + chunkSize e) (chunksEnd es)

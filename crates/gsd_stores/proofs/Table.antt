@@ -7,7 +7,7 @@ use Rattle.gsd_format.specs.Refusals.{_⇒_, _▹_}
 use Rattle.gsd_format.specs.Types.{sizeOf}
 use Rattle.gsd_format.specs.Header.{layoutOf}
 use Rattle.gsd_format.specs.Names.{partsAt, nameParts, namesOf, flat, indexOf}
-use Rattle.gsd_format.specs.Entries.{entryAt, entriesAt, entriesOf, framesFrom}
+use Rattle.gsd_format.specs.Entries.{entryAt, entriesAt, entriesOf, framesFrom, chunksEnd}
 use Rattle.gsd_format.specs.Opening.{headerTest, blocksTest, twins, namesTest, entryTest, entriesTest, verdict, countsOf, opening}
 use Rattle.gsd_format.specs.Lookup.{nthEntry, nthName, findEntry, lookupIn, lookup, placed, chunkPlace, bytesAt}
 use Rattle.gsd_format.specs.Create.{orDefault, createTest, freshHeader, fresh, createNumber, created}
@@ -15,7 +15,7 @@ use Rattle.gsd_format.specs.Listing.{digits, decimal, fields, entryLine, entryL
 use Rattle.gsd_format.specs.Answers.{openingNumber, openingValues, listedNumber, listedValues, placeNumber, placeValues, elementNumber, bits64, elementValues}
 use Rattle.gsd_stores.specs.Sheet.{bodySize, badTable, bodiesEnd, rowsAt, rowsOf, anyZero, sheetTest}
 use Rattle.gsd_stores.specs.Stores.{after, words, up, down, slotsDown}
-use Rattle.gsd_stores.specs.View.{viewOf, chunksEnd, endOfUse}
+use Rattle.gsd_stores.specs.View.{viewOf, endOfUse}
 use Rattle.gsd_stores.specs.Plan.{bodies, newNames, newEntries, inserted, sorted, doubled, planOf}
 use Rattle.gsd_stores.specs.Steps.{clearIndex, clearNames, storeData, moved, moveNames, storeName, storeNames, moveIndex, entryBytes, indexBytes, storeEntries, stepsOf, storeList}
 use Rattle.gsd_stores.specs.Append.{planTest, appendTest, storesFor, appendAnswer, appended}

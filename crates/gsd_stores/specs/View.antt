@@ -1,14 +1,13 @@
 -- What an append sees of an image: where its blocks lie, the listed entries and the listed names.
 use Prim.Native.Nat.{ℕ, _+_, _*_, max}
-use mathlib.Core.List.{List, [], _∷_}
+use mathlib.Core.List.{List}
 use lib.ListN.{length}
 use Rattle.gsd_format.specs.declared.Entry.{Entry}
 use Rattle.gsd_format.specs.declared.Layout.{Layout}
 use Rattle.gsd_format.specs.Bytes.{roundUp}
-use Rattle.gsd_format.specs.Types.{chunkSize}
 use Rattle.gsd_format.specs.Header.{headerSize, layoutOf}
 use Rattle.gsd_format.specs.Names.{namesOf, flat}
-use Rattle.gsd_format.specs.Entries.{entriesOf}
+use Rattle.gsd_format.specs.Entries.{entriesOf, chunksEnd}
 
 pub record View : Type 0 where
   pub layout : Layout
@@ -30,10 +29,6 @@ entriesEnd v = v .layout .index + 32 * length (v .entries)
 
 abbrev pub namesEnd : View → ℕ
 namesEnd v = v .layout .namelist + length (flat (v .names))
-
-unfoldable pub chunksEnd : List Entry → ℕ
-chunksEnd [] = 0
-chunksEnd (e ∷ es) = max (e .location + chunkSize e) (chunksEnd es)
 
 -- starts and ends of chunks and blocks are rounded up to this
 abbrev pub alignment : ℕ

@@ -1,0 +1,116 @@
+-- Laws of what is found: the search for an entry slot by slot, and that names and chunks lie in the image.
+use Prim.Native.Nat.{ℕ, zero, suc, _+_, _*_, _-_, _≤_, _<_}
+use mathlib.Core.Path.{_≡_, refl, sym, _∙_, ap}
+use mathlib.Core.Bool.{true, false, _&&_}
+use mathlib.Core.List.{List, [], _∷_}
+use native.Mathlib.Numerals.{add-one}
+use native.Mathlib.Decide.{decLt}
+use native.Mathlib.Omega.{arith}
+use lib.ListN.{length, drop, drop-of-length-le}
+use lib.Seq.{drop-cons}
+use lib.Dec.{eqb}
+use Rattle.gsd_format.specs.declared.Entry.{Entry}
+use Rattle.gsd_format.specs.declared.Listed.{Listed}
+use Rattle.gsd_format.specs.declared.Part.{Part}
+use Rattle.gsd_format.specs.declared.Place.{Place}
+use Rattle.gsd_format.specs.Bytes.{part}
+use Rattle.gsd_format.specs.Header.{greatestLength, layoutOf}
+use Rattle.gsd_format.specs.Types.{chunkSize}
+use Rattle.gsd_format.specs.Names.{nameParts, namesOf}
+use Rattle.gsd_format.specs.Entries.{entryAt, entriesOf}
+use Rattle.gsd_format.specs.Opening.{verdict}
+use Rattle.gsd_format.specs.Lookup.{none, nowhere, nthName, findEntry, lookup, placed, chunkPlace, bytesAt}
+use Rattle.gsd_format.proofs.Lists.{each-at}
+use Rattle.gsd_format.proofs.Names.{Lies, parts-lie}
+use Rattle.gsd_format.proofs.Verdict.{Sound, verdict-zero}
+use Rattle.gsd_format.proofs.Lookup.{find-end, find-sound, look-found, opened-lookup, opened-name, opened-no-name, refused-name, found-opens}
+use Rattle.gsd_read.specs.Index.{Capped}
+use Rattle.gsd_read.specs.Surveys.{Inside}
+use Rattle.gsd_read.proofs.Surveys.{layout-length, slot-entry}
+
+-- The search for an entry
+
+found-by : (frame id : ℕ) (e : Entry) (es : List Entry) → (eqb (e .frame) frame && eqb (e .id) id) ≡ true → findEntry frame id (e ∷ es) ≡ Listed.Found e
+unfolding findEntry
+found-by frame id e es h = rw (h, findEntry)
+
+passed-by : (frame id : ℕ) (e : Entry) (es : List Entry) → (eqb (e .frame) frame && eqb (e .id) id) ≡ false →
+    findEntry frame id (e ∷ es) ≡ findEntry frame id es
+unfolding findEntry
+passed-by frame id e es h = rw (h, findEntry)
+
+-- the i-th entry is e, read at place at
+module _ (img : List ℕ) (good : verdict img ≡ 0) (i : ℕ) (few : i < length (entriesOf img)) (at : ℕ) (there : at ≡ layoutOf img .index + 32 * i) where
+  here-on : (e : Entry) → e ≡ entryAt img at → drop i (entriesOf img) ≡ e ∷ drop (i + 1) (entriesOf img)
+  here-on e q = rw (add-one i, q, slot-entry img good i few at there) (drop-cons (entriesOf img) i none few)
+
+  pub found-here : (frame id : ℕ) (e : Entry) → e ≡ entryAt img at → (eqb (e .frame) frame && eqb (e .id) id) ≡ true →
+      findEntry frame id (drop i (entriesOf img)) ≡ Listed.Found e
+  found-here frame id e q h = rw (here-on e q) (found-by frame id e (drop (i + 1) (entriesOf img)) h)
+
+  pub found-on : (frame id : ℕ) (e : Entry) → e ≡ entryAt img at → (eqb (e .frame) frame && eqb (e .id) id) ≡ false →
+      findEntry frame id (drop i (entriesOf img)) ≡ findEntry frame id (drop (i + 1) (entriesOf img))
+  found-on frame id e q h = ap (findEntry frame id) (here-on e q) ∙ passed-by frame id e (drop (i + 1) (entriesOf img)) h
+
+pub found-none : (frame id : ℕ) (es : List Entry) (i : ℕ) → length es ≤ i → findEntry frame id (drop i es) ≡ Listed.Refused 42
+found-none frame id es i h = ap (findEntry frame id) (drop-of-length-le es h) ∙ find-end frame id
+
+-- Where names and chunks lie
+
+module _ (img : List ℕ) (place : Place) where
+  pub inside-at : (p : Part) → place ≡ Place.At p → Inside img place → p .start + p .size ≤ length img
+  unfolding Inside
+  inside-at p e h = rw e at h
+
+  pub bytes-at : (p : Part) → place ≡ Place.At p → bytesAt img place ≡ part img (p .start) (p .start + p .size - p .start)
+  unfolding bytesAt
+  bytes-at p e = ap (bytesAt img) e ∙ ap (part img (p .start)) (let q : p .size ≡ p .start + p .size - p .start = omega arith in q)
+
+  pub bytes-none : (n : ℕ) → place ≡ Place.Refused n → bytesAt img place ≡ []
+  unfolding bytesAt
+  bytes-none n e = ap (bytesAt img) e
+
+pub name-inside : (img : List ℕ) (n : ℕ) → Inside img (nthName img n)
+unfolding Inside nameParts
+name-inside img n = go (verdict img) refl (decLt n (length (nameParts img)))
+  where
+    go : (v : ℕ) → verdict img ≡ v → Dec (n < length (nameParts img)) → Inside img (nthName img n)
+    go zero e (yes l) =
+        let lies = each-at (Lies img (layoutOf img .namelist) (64 * layoutOf img .segments)) (nameParts img) nowhere (parts-lie img _ _) n l in
+        rw (opened-name img e n l) (omega (arith, lies .high, verdict-zero img .0 e .blocks .namelistHigh, layout-length img (layoutOf img) refl))
+    go zero e (no l) = rw (opened-no-name img e n (omega arith)) tt
+    go (suc k) e l = rw (refused-name img k e n) tt
+
+-- an entry that is found is sound, and its chunk is in the image
+module _ (img : List ℕ) (frame : ℕ) (name : List ℕ) (e : Entry) (found : lookup img frame name ≡ Listed.Found e) where
+  pub found-sound : Sound (layoutOf img) (length (namesOf img)) e
+  found-sound =
+      let opens = found-opens img frame name e found in
+      let met = look-found (entriesOf img) (namesOf img) frame name e .0 (sym (opened-lookup img opens frame name) ∙ found) in
+      let stands = find-sound _ _ (entriesOf img) e (met .2) in
+      rw (stands .there) at (verdict-zero img .0 opens .sound (stands .place) (stands .within))
+
+  pub found-within : e .location + chunkSize e ≤ length img
+  found-within = omega (arith, found-sound .within, layout-length img (layoutOf img) refl)
+
+  pub found-short : length img ≤ greatestLength
+  found-short = verdict-zero img .0 (found-opens img frame name e found) .front .high
+
+  -- its place, by its size as code keeps it
+  pub place-found : (size : ℕ) → Capped (chunkSize e) size → chunkPlace img frame name ≡ Place.At (record { start = e .location; size = size })
+  unfolding chunkPlace placed
+  place-found size c =
+      ap placed found ∙ (λ i. Place.At (record { start = e .location; size = sym (c .exact (omega (arith, found-within, found-short))) i }))
+
+pub place-refused : (img : List ℕ) (frame : ℕ) (name : List ℕ) (n : ℕ) → lookup img frame name ≡ Listed.Refused n →
+    chunkPlace img frame name ≡ Place.Refused n
+unfolding chunkPlace placed
+place-refused img frame name n h = ap placed h
+
+pub chunk-inside : (img : List ℕ) (frame : ℕ) (name : List ℕ) → Inside img (chunkPlace img frame name)
+unfolding Inside chunkPlace placed
+chunk-inside img frame name = go (lookup img frame name) refl
+  where
+    go : (r : Listed) → lookup img frame name ≡ r → Inside img (placed r)
+    go (Listed.Found e) h = found-within img frame name e h
+    go (Listed.Refused n) h = tt

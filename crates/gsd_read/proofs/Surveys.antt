@@ -1,0 +1,184 @@
+-- Laws of the survey: the opening's number test by test, and what each call answers by what the survey says.
+use Prim.Native.Nat.{ℕ, zero, suc, _+_, _*_, _≤_, _<_}
+use mathlib.Core.Path.{_≡_, refl, sym, _∙_, ap}
+use mathlib.Core.List.{List}
+use native.Mathlib.Omega.{arith}
+use lib.ListN.{length, getD, length-map}
+use Rattle.gsd_format.specs.declared.Layout.{Layout}
+use Rattle.gsd_format.specs.declared.Opening.{Opening}
+use Rattle.gsd_format.specs.declared.Listed.{Listed}
+use Rattle.gsd_format.specs.declared.Place.{Place}
+use Rattle.gsd_format.specs.Header.{greatestLength, layoutOf}
+use Rattle.gsd_format.specs.Names.{nameParts, bytesOf, namesOf, indexOf}
+use Rattle.gsd_format.specs.Entries.{entryAt, entriesAt, entriesOf, framesOf, chunksEnd}
+use Rattle.gsd_format.specs.Refusals.{_▹_}
+use Rattle.gsd_format.specs.Opening.{headerTest, blocksTest, mostNames, namesTest, entriesTest, verdict, countsOf, opening}
+use Rattle.gsd_format.specs.Lookup.{none, nthEntry, nthName, findEntry, lookup}
+use Rattle.gsd_format.proofs.Refusals.{first-of, stays}
+use Rattle.gsd_format.proofs.Names.{namesAt, names-of, names-pass}
+use Rattle.gsd_format.proofs.Entries.{image-entries}
+use Rattle.gsd_format.proofs.Verdict.{Blocks, header-zero, blocks-zero, verdict-zero, opening-open}
+use Rattle.gsd_format.proofs.Lookup.{look-frame, look-name, look-entry, opened-lookup, opened-entry, opened-no-entry, opened-name, opened-no-name}
+use Rattle.gsd_read.specs.declared.index.Walk.{Walk}
+use Rattle.gsd_read.specs.declared.names.NameList.{NameList}
+use Rattle.gsd_read.specs.declared.survey.Survey.{Survey}
+use Rattle.gsd_read.specs.Index.{Walks}
+use Rattle.gsd_read.specs.NameLists.{partAt, namesIn, Spans, NamesFound}
+use Rattle.gsd_read.specs.Surveys.{Laid, Surveyed}
+use Rattle.gsd_read.proofs.NameLists.{found-count, found-names, found-part}
+
+-- a refusal says no more than its number
+refused : (img : List ℕ) (r : Survey) → r .number ≡ verdict img → (r .number ≡ 0 → ⊥) → Surveyed img r
+refused img r e n = record {
+  number = e;
+  layout = λ z. absurd (n z);
+  names = λ z. absurd (n z);
+  entries = λ z. absurd (n z);
+  frames = λ z. absurd (n z);
+  end = λ z. absurd (n z);
+}
+
+-- the verdict is the number of the first part that refuses
+pub bad-header : (img : List ℕ) (r : Survey) → r .number ≡ headerTest img → (r .number ≡ 0 → ⊥) → Surveyed img r
+unfolding verdict
+bad-header img r e n = refused img r (e ∙ sym (stays _ _ (λ z. n (e ∙ z)))) n
+
+pub bad-blocks : (img : List ℕ) (l : Layout) (r : Survey) → headerTest img ≡ 0 → l ≡ layoutOf img → r .number ≡ blocksTest l → (r .number ≡ 0 → ⊥) → Surveyed img r
+unfolding verdict
+bad-blocks img l r header at e n =
+    let q : r .number ≡ blocksTest (layoutOf img) = e ∙ ap blocksTest at in
+    refused img r (q ∙ sym (stays _ _ (λ z. n (q ∙ z))) ∙ sym (first-of _ _ header)) n
+
+pub layout-length : (img : List ℕ) (l : Layout) → l ≡ layoutOf img → l .len ≡ length img
+unfolding layoutOf
+layout-length img l at = ap (λ k. k .len) at
+
+-- behind header and blocks
+module _ (img : List ℕ) (l : Layout) (laid : Laid img l) where
+  pub laid-length : l .len ≡ length img
+  laid-length = layout-length img l (laid .layout)
+
+  pub laid-short : length img ≤ greatestLength
+  laid-short = header-zero img .0 (laid .header) .high
+
+  pub laid-blocks : Blocks l
+  laid-blocks = blocks-zero l .0 (laid .blocks)
+
+  behind : verdict img ≡ namesTest img (layoutOf img) (namesOf img) ▹ entriesTest (layoutOf img) (length (namesOf img)) 0 0 (entriesOf img)
+  unfolding verdict
+  behind = first-of _ _ (laid .header) ∙ first-of _ _ (ap blocksTest (sym (laid .layout)) ∙ laid .blocks)
+
+  abbrev pub block : List (List ℕ)
+  block = namesAt img (l .namelist) (64 * l .segments)
+
+  block-names : block ≡ namesOf img
+  block-names = (λ i. namesAt img (laid .layout i .namelist) (64 * laid .layout i .segments)) ∙ sym (names-of img)
+
+  pub bad-names : (r : Survey) → r .number ≡ namesTest img l block → (r .number ≡ 0 → ⊥) → Surveyed img r
+  bad-names r e n =
+      let q : r .number ≡ namesTest img (layoutOf img) (namesOf img) = e ∙ (λ i. namesTest img (laid .layout i) (block-names i)) in
+      refused img r (q ∙ sym (stays _ _ (λ z. n (q ∙ z))) ∙ sym behind) n
+
+  -- where no part refuses, the answer is what the walk says
+  pub walked : (list : NameList) (w : Walk) → namesTest img l block ≡ 0 → NamesFound img (l .namelist) (64 * l .segments) list →
+      Walks l (list .count) (entriesAt img (l .index) (l .slots)) w →
+      Surveyed img (record { number = w .number; layout = l; names = list; entries = w .entries; frames = w .frames; end = w .end })
+  unfolding entriesOf
+  walked list w good found walks =
+      let es : entriesAt img (l .index) (l .slots) ≡ entriesOf img = λ i. entriesAt img (laid .layout i .index) (laid .layout i .slots) in
+      let count : list .count ≡ length (namesOf img) = sym (found-count img _ _ list found) ∙ ap length block-names in
+      record {
+        number = walks .number ∙ (λ i. entriesTest (laid .layout i) (count i) 0 0 (es i))
+            ∙ sym (first-of _ _ ((λ i. namesTest img (sym (laid .layout) i) (sym block-names i)) ∙ good)) ∙ sym behind;
+        layout = λ _. laid .layout;
+        names = λ _. rw (laid .layout) at found;
+        entries = λ z. walks .entries z ∙ ap length es;
+        frames = λ z. walks .frames z ∙ ap framesOf es;
+        end = λ z. walks .end z ∙ ap chunksEnd es;
+      }
+
+-- the slots of the listed entries
+module _ (img : List ℕ) (good : verdict img ≡ 0) (i : ℕ) (few : i < length (entriesOf img)) where
+  pub slot-within : layoutOf img .index + 32 * i + 32 ≤ length img
+  slot-within = omega (arith, verdict-zero img .0 good .blocks .indexHigh, layout-length img (layoutOf img) refl, image-entries img .few)
+
+  pub slot-entry : (at : ℕ) → at ≡ layoutOf img .index + 32 * i → entryAt img at ≡ getD (entriesOf img) i none
+  slot-entry at e = ap (entryAt img) e ∙ image-entries img .each i few
+
+-- What the calls answer, by the survey
+
+-- a refusal passes the number on
+pub passed-on : {A : Type 0} (img : List ℕ) (refusal : ℕ → A) (answer : A) → ((k : ℕ) → verdict img ≡ suc k → answer ≡ refusal (suc k)) →
+    (number : ℕ) → number ≡ verdict img → (number ≡ 0 → ⊥) → refusal number ≡ answer
+passed-on img refusal answer h zero e n = absurd (n refl)
+passed-on img refusal answer h (suc k) e n = sym (h k (sym e))
+
+module _ (img : List ℕ) (s : Survey) (told : Surveyed img s) (good : s .number ≡ 0) where
+  pub opens : verdict img ≡ 0
+  opens = sym (told .number) ∙ good
+
+  listed : NamesFound img (layoutOf img .namelist) (64 * layoutOf img .segments) (s .names)
+  listed = told .names good
+
+  many-parts : s .names .count ≡ length (nameParts img)
+  unfolding nameParts
+  many-parts = listed .count
+
+  many-names : s .names .count ≡ length (namesOf img)
+  unfolding namesOf
+  many-names = many-parts ∙ sym (length-map (nameParts img) (bytesOf img))
+
+  few-names : s .names .count ≤ mostNames
+  few-names = omega (arith, many-names, names-pass img (layoutOf img) (namesOf img) (verdict-zero img .0 opens .names) .1)
+
+  pub spans : Spans (s .names .starts) (s .names .count) (length img)
+  spans = listed .spans few-names
+
+  pub opened : opening img ≡ Opening.Open (record { frames = s .frames; names = s .names .count; entries = s .entries })
+  unfolding countsOf
+  opened =
+      opening-open img opens
+      ∙ (λ i. Opening.Open (record { frames = sym (told .frames good) i; names = sym many-names i; entries = sym (told .entries good) i }))
+
+  -- the n-th entry
+  pub index-there : s .layout .index ≡ layoutOf img .index
+  index-there = ap (λ l. l .index) (told .layout good)
+
+  pub entry-within : (n : ℕ) → n < s .entries → s .layout .index + 32 * n + 32 ≤ length img
+  entry-within n h = omega (arith, slot-within img opens n (omega (arith, told .entries good)), index-there)
+
+  pub entry-there : (n : ℕ) → n < s .entries → nthEntry img n ≡ Listed.Found (entryAt img (s .layout .index + 32 * n))
+  entry-there n h =
+      let few : n < length (entriesOf img) = omega (arith, told .entries good) in
+      opened-entry img opens n few ∙ ap Listed.Found (sym (slot-entry img opens n few (s .layout .index + 32 * n) (omega (arith, index-there))))
+
+  pub no-entry : (n : ℕ) → s .entries ≤ n → nthEntry img n ≡ Listed.Refused 44
+  no-entry n h = opened-no-entry img opens n (omega (arith, told .entries good))
+
+  -- the n-th name
+  pub name-there : (n : ℕ) → n < s .names .count → nthName img n ≡ Place.At (partAt (s .names .starts) n)
+  unfolding nameParts
+  name-there n h = opened-name img opens n (omega (arith, many-parts)) ∙ ap Place.At (found-part img _ _ (s .names) listed few-names n h)
+
+  pub no-name : (n : ℕ) → s .names .count ≤ n → nthName img n ≡ Place.Refused 44
+  no-name n h = opened-no-name img opens n (omega (arith, many-parts))
+
+  -- the lookup of a frame and a name, where id is what the search for the name answers
+  module _ (frame : ℕ) (name : List ℕ) where
+    pub no-frame : s .frames ≤ frame → lookup img frame name ≡ Listed.Refused 40
+    no-frame h = opened-lookup img opens frame name ∙ look-frame (entriesOf img) (namesOf img) frame name (omega (arith, told .frames good))
+
+    module _ (id : ℕ) (sought : id ≡ indexOf name (namesIn img (s .names .starts) (s .names .count))) (there : frame < s .frames) where
+      place : indexOf name (namesOf img) ≡ id
+      place = ap (indexOf name) (sym (found-names img _ _ (s .names) listed few-names ∙ sym (names-of img))) ∙ sym sought
+
+      pub not-listed : s .names .count ≤ id → lookup img frame name ≡ Listed.Refused 41
+      not-listed h =
+          opened-lookup img opens frame name
+          ∙ look-name (entriesOf img) (namesOf img) frame name (omega (arith, told .frames good)) (omega (arith, place, many-names))
+
+      pub look-on : id < s .names .count → lookup img frame name ≡ findEntry frame id (entriesOf img)
+      look-on h =
+          opened-lookup img opens frame name
+          ∙ look-entry (entriesOf img) (namesOf img) frame name (omega (arith, told .frames good)) (omega (arith, place, many-names))
+          ∙ ap (λ k. findEntry frame k (entriesOf img)) place

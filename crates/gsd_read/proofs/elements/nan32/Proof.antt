@@ -1,0 +1,11 @@
+use mathlib.Core.Path.{sym}
+use lib.Ieee.{binary32}
+use lib.Ieee.Bits.{nanBits-above}
+use Rattle.gsd_read.proofs.elements.nan32.Statement.{statement}
+use Rattle.gsd_read.proofs.elements.nan32.Tie as tie
+
+returns : tie.Need-returns
+returns c = sym (nanBits-above binary32 (c .args .bits))
+
+pub nan32-spec : {M : Type 1} → statement M
+nan32-spec = tie.close (tie.spec returns)

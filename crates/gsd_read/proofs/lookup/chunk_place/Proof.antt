@@ -1,0 +1,37 @@
+use mathlib.Core.Path.{sym, _∙_, ap}
+use native.Mathlib.Omega.{arith}
+use borrow.Author.Needs.{needs}
+use Rattle.gsd_format.specs.Lookup.{placed}
+use Rattle.gsd_read.proofs.Found.{place-found, place-refused}
+use borrow.Author.Needs.{needs}
+use Rattle.gsd_read.proofs.lookup.chunk_place.Statement.{statement}
+use Rattle.gsd_read.proofs.lookup.chunk_place.Tie as tie
+
+lookup-requires : tie.Need-lookup-requires
+lookup-requires c κs = search needs
+
+enum-known-e : tie.Need-enum-known-e
+enum-known-e c = search needs
+
+chunk-bytes-requires : tie.Need-chunk-bytes-requires
+chunk-bytes-requires c κs = search needs
+
+enum-known-number : tie.Need-enum-known-number
+enum-known-number c = search needs
+
+returns : tie.Need-returns
+returns c = sym (place-found _ _ _ _ (sym (c .before .before .before .before .lookup .ensures) ∙ c .before .before .e .given .1) _ (c .chunk-bytes .ensures))
+
+returns-2 : tie.Need-returns-2
+returns-2 c = sym (place-refused _ _ _ _ (sym (c .before .before .before .lookup .ensures) ∙ c .before .number .given .1))
+
+pub chunk-place-spec : {M : Type 1} → statement M
+chunk-place-spec =
+    tie.close
+    (tie.spec
+    lookup-requires
+    enum-known-e
+    chunk-bytes-requires
+    enum-known-number
+    returns
+    returns-2)

@@ -1,0 +1,41 @@
+use mathlib.Core.Path.{sym, _∙_, ap}
+use native.Mathlib.Omega.{arith}
+use borrow.Author.Needs.{needs}
+use Rattle.gsd_format.specs.declared.Listed.{Listed}
+use Rattle.gsd_format.proofs.Lookup.{refused-entry}
+use Rattle.gsd_read.proofs.Surveys.{passed-on, entry-within, entry-there, no-entry}
+use Rattle.gsd_read.proofs.lookup.entry.Statement.{statement}
+use Rattle.gsd_read.proofs.lookup.entry.Tie as tie
+
+survey-of-requires : tie.Need-survey-of-requires
+survey-of-requires c κs = search needs
+
+returns : tie.Need-returns
+returns c = passed-on _ Listed.Refused _ (λ k r. refused-entry _ k r _) _ (c .before .before .survey-of .ensures .number) (c .if1 .taken)
+
+returns-2 : tie.Need-returns-2
+returns-2 c = sym (no-entry _ _ (c .before .before .before .before .survey-of .ensures) (c .before .before .if1 .left) _ (c .if2 .taken))
+
+mul-entry-at : tie.Need-mul-entry-at
+mul-entry-at c = omega (arith, entry-within _ _ (c .before .before .before .before .survey-of .ensures) (c .before .before .if1 .left) _ (c .if2 .left))
+
+add-entry-at : tie.Need-add-entry-at
+add-entry-at c = omega (arith, entry-within _ _ (c .before .before .before .before .before .survey-of .ensures) (c .before .before .before .if1 .left) _ (c .before .if2 .left))
+
+entry-at-requires : tie.Need-entry-at-requires
+entry-at-requires c κs = entry-within _ _ (c .before .before .before .before .before .survey-of .ensures) (c .before .before .before .if1 .left) _ (c .before .if2 .left)
+
+returns-3 : tie.Need-returns-3
+returns-3 c = ap Listed.Found (c .entry-at .ensures) ∙ sym (entry-there _ _ (c .before .before .before .before .before .before .survey-of .ensures) (c .before .before .before .before .if1 .left) _ (c .before .before .if2 .left))
+
+pub entry-spec : {M : Type 1} → statement M
+entry-spec =
+    tie.close
+    (tie.spec
+    survey-of-requires
+    returns
+    returns-2
+    mul-entry-at
+    add-entry-at
+    entry-at-requires
+    returns-3)

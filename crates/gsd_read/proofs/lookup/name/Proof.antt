@@ -1,0 +1,25 @@
+use mathlib.Core.Path.{sym, _∙_, ap}
+use borrow.Author.Needs.{needs}
+use Rattle.gsd_format.specs.declared.Place.{Place}
+use Rattle.gsd_format.proofs.Lookup.{refused-name}
+use Rattle.gsd_read.proofs.Surveys.{passed-on, spans, name-there, no-name}
+use Rattle.gsd_read.proofs.lookup.name.Statement.{statement}
+use Rattle.gsd_read.proofs.lookup.name.Tie as tie
+
+survey-of-requires : tie.Need-survey-of-requires
+survey-of-requires c κs = search needs
+
+returns : tie.Need-returns
+returns c = passed-on _ Place.Refused _ (λ k r. refused-name _ k r _) _ (c .before .survey-of .ensures .number) (c .if1 .taken)
+
+returns-2 : tie.Need-returns-2
+returns-2 c = sym (no-name _ _ (c .before .before .survey-of .ensures) (c .before .if1 .left) _ (c .if2 .taken))
+
+name-part-requires : tie.Need-name-part-requires
+name-part-requires c κs = let span = spans _ _ (c .before .before .before .before .survey-of .ensures) (c .before .before .before .if1 .left) _ (c .before .before .if2 .left) in (span .kept, span .some)
+
+returns-3 : tie.Need-returns-3
+returns-3 c = ap Place.At (c .name-part .ensures) ∙ sym (name-there _ _ (c .before .before .before .before .before .survey-of .ensures) (c .before .before .before .before .if1 .left) _ (c .before .before .before .if2 .left))
+
+pub name-spec : {M : Type 1} → statement M
+name-spec = tie.close (tie.spec survey-of-requires returns returns-2 name-part-requires returns-3)

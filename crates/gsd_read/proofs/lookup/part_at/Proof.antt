@@ -1,0 +1,56 @@
+use mathlib.Core.Path.{sym}
+use native.Mathlib.Omega.{arith}
+use borrow.Author.Needs.{needs}
+use Rattle.gsd_read.proofs.Found.{inside-at, bytes-at, bytes-none}
+use borrow.Author.Needs.{needs}
+use Rattle.gsd_read.proofs.lookup.part_at.Statement.{statement}
+use Rattle.gsd_read.proofs.lookup.part_at.Tie as tie
+
+enum-known-place : tie.Need-enum-known-place
+enum-known-place c = search needs
+
+add-end : tie.Need-add-end
+add-end c = omega (arith, inside-at _ _ _ (c .before .before .place .given .1) (c .before .before .before .before .pre))
+
+sub-result : tie.Need-sub-result
+sub-result c = search needs
+
+part-result-start : tie.Need-part-result-start
+part-result-start c = search needs
+
+part-result-end : tie.Need-part-result-end
+part-result-end c = omega (arith, inside-at _ _ _ (c .before .before .place .given .1) (c .before .before .before .before .pre))
+
+enum-told : tie.Need-enum-told
+enum-told c = search needs
+
+sub-result-2 : tie.Need-sub-result-2
+sub-result-2 c = search needs
+
+part-result-start-2 : tie.Need-part-result-start-2
+part-result-start-2 c = search needs
+
+part-result-end-2 : tie.Need-part-result-end-2
+part-result-end-2 c = search needs
+
+returns : tie.Need-returns
+returns c = sym (bytes-at _ _ _ (c .before .before .before .place .given .1))
+
+returns-2 : tie.Need-returns-2
+returns-2 c = sym (bytes-none _ _ _ (c .before .enum-told .given .1))
+
+pub part-at-spec : {M : Type 1} → statement M
+part-at-spec =
+    tie.close
+    (tie.spec
+    enum-known-place
+    add-end
+    sub-result
+    part-result-start
+    part-result-end
+    enum-told
+    sub-result-2
+    part-result-start-2
+    part-result-end-2
+    returns
+    returns-2)

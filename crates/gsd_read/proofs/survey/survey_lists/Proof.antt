@@ -1,0 +1,40 @@
+-- `gsd_read::survey::survey_lists` meets its contract: names that are refused, or what the walk says.
+use mathlib.Core.Path.{sym, _∙_}
+use native.Mathlib.Omega.{arith}
+use Rattle.gsd_read.proofs.Surveys.{laid-length, laid-short, laid-blocks, bad-names, walked}
+use borrow.Author.Needs.{needs}
+use Rattle.gsd_read.proofs.survey.survey_lists.Statement.{statement}
+use Rattle.gsd_read.proofs.survey.survey_lists.Tie as tie
+
+mul-name-list : tie.Need-mul-name-list
+mul-name-list c = let laid = c .before .pre in omega (arith, laid-length _ _ laid, laid-short _ _ laid, laid-blocks _ _ laid)
+
+name-list-requires : tie.Need-name-list-requires
+name-list-requires c κs = let laid = c .before .pre in omega (arith, laid-length _ _ laid, laid-short _ _ laid, laid-blocks _ _ laid)
+
+names-number-requires : tie.Need-names-number-requires
+names-number-requires c κs = let laid = c .before .before .before .before .pre in (omega (arith, laid-length _ _ laid, laid-blocks _ _ laid), c .before .before .name-list .ensures)
+
+refusal-requires : tie.Need-refusal-requires
+refusal-requires c κs = search needs
+
+returns : tie.Need-returns
+returns c = bad-names _ _ (c .before .before .before .before .before .before .before .pre) _ (c .refusal .ensures ∙ c .before .before .names-number .ensures) (λ z. c .before .if1 .taken (sym (c .refusal .ensures) ∙ z))
+
+walk-entries-requires : tie.Need-walk-entries-requires
+walk-entries-requires c κs = let laid = c .before .before .before .before .before .before .pre in (laid-blocks _ _ laid, omega (arith, laid-length _ _ laid, laid-short _ _ laid), sym (laid-length _ _ laid))
+
+returns-2 : tie.Need-returns-2
+returns-2 c = walked _ _ (c .before .before .before .before .before .before .before .pre) _ _ (sym (c .before .before .names-number .ensures) ∙ c .before .if1 .left) (c .before .before .before .before .before .name-list .ensures) (c .walk-entries .ensures)
+
+pub survey-lists-spec : {M : Type 1} → statement M
+survey-lists-spec =
+    tie.close
+    (tie.spec
+    mul-name-list
+    name-list-requires
+    names-number-requires
+    refusal-requires
+    returns
+    walk-entries-requires
+    returns-2)

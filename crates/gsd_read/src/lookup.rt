@@ -1,0 +1,149 @@
+// What is found in an image: its counts, the n-th entry and name, the entry of a frame and a name, and its chunk.
+use crate::index::chunk_bytes;
+use crate::index::entry_at;
+use crate::names::find_name;
+use crate::names::name_part;
+use crate::survey::survey_of;
+use gsd_format::Counts;
+use gsd_format::Entry;
+use gsd_format::Listed;
+use gsd_format::Opening;
+use gsd_format::Part;
+use gsd_format::Place;
+ghost use mathlib.Core.Path.{_≡_};
+ghost use mathlib.Core.Bool.{_&&_};
+ghost use Prim.Native.Nat.{_+_, _*_, _≤_, _<_};
+ghost use lib.ListN.{length};
+ghost use lib.Dec.{eqb};
+ghost use Rattle.gsd_format.specs.Header.{layoutOf};
+ghost use Rattle.gsd_format.specs.Entries.{entriesOf};
+ghost use Rattle.gsd_format.specs.Opening.{verdict, opening};
+ghost use Rattle.gsd_format.specs.Lookup.{nthEntry, nthName, findEntry, lookup, chunkPlace, bytesAt};
+ghost use Rattle.gsd_read.specs.Surveys.{Inside};
+
+pub fn open(image: &[u8]) -> Opening
+    ensures { λ r. ⌜ r ≡ opening (now (image .entry)) ⌝ }
+{
+    let s = survey_of(image);
+    if s.number != 0 {
+        return Opening::Refused(s.number);
+    }
+    Opening::Open(Counts {
+        frames: s.frames,
+        names: s.names.count as u64,
+        entries: s.entries,
+    })
+}
+
+pub fn entry(image: &[u8], n: u64) -> Listed
+    ensures { λ r. ⌜ r ≡ nthEntry (now (image .entry)) n ⌝ }
+{
+    let s = survey_of(image);
+    if s.number != 0 {
+        return Listed::Refused(s.number);
+    }
+    if s.entries <= n {
+        return Listed::Refused(44);
+    }
+    Listed::Found(entry_at(image, (s.layout.index + 32 * n) as usize))
+}
+
+pub fn name(image: &[u8], n: u64) -> Place
+    ensures { λ r. ⌜ r ≡ nthName (now (image .entry)) n ⌝ }
+{
+    let s = survey_of(image);
+    if s.number != 0 {
+        return Place::Refused(s.number);
+    }
+    if s.names.count as u64 <= n {
+        return Place::Refused(44);
+    }
+    Place::At(name_part(&s.names.starts, n as usize))
+}
+
+// The part of the image at a place.
+fn part_at(image: &[u8], place: Place) -> &[u8]
+    requires { ⌜ Inside (now image) place ⌝ }
+    ensures { λ r. ⌜ now r ≡ bytesAt (now (image .entry)) place ⌝ }
+{
+    match place {
+        Place::At(p) => {
+            let start = p.start;
+            let end = p.start + p.size;
+            &image[start..end]
+        }
+        Place::Refused(_) => &image[0..0],
+    }
+}
+
+pub fn name_bytes(image: &[u8], n: u64) -> &[u8]
+    ensures { λ r. ⌜ now r ≡ bytesAt (now (image .entry)) (nthName (now (image .entry)) n) ⌝ }
+{
+    part_at(image, name(image, n))
+}
+
+fn matches(e: Entry, frame: u64, id: u64) -> bool
+    ensures { λ r. ⌜ r ≡ (eqb (e .frame) frame && eqb (e .id) id) ⌝ }
+{
+    if e.frame != frame {
+        return false;
+    }
+    e.id as u64 == id
+}
+
+// The entry of a frame and an id among the listed entries, count of them from index on.
+fn find_entry(image: &[u8], index: u64, count: u64, frame: u64, id: u64) -> Listed
+    requires { ⌜ (verdict (now image) ≡ 0) × (index ≡ layoutOf (now image) .index) × (count ≡ length (entriesOf (now image))) ⌝ }
+    ensures { λ r. ⌜ r ≡ findEntry frame id (entriesOf (now (image .entry))) ⌝ }
+{
+    let mut at = index as usize;
+    let mut i = 0;
+    while i < count {
+        let e = entry_at(image, at);
+        if matches(e, frame, id) {
+            return Listed::Found(e);
+        }
+        at += 32;
+        i += 1;
+    }
+    Listed::Refused(42)
+}
+
+// Any bytes may be asked as a name.
+pub fn lookup(image: &[u8], frame: u64, name: &[u8]) -> Listed
+    ensures { λ r. ⌜ r ≡ lookup (now (image .entry)) frame (now (name .entry)) ⌝ }
+{
+    let s = survey_of(image);
+    if s.number != 0 {
+        return Listed::Refused(s.number);
+    }
+    if s.frames <= frame {
+        return Listed::Refused(40);
+    }
+    let count = s.names.count;
+    let id = find_name(image, &s.names.starts, count, name);
+    if count <= id {
+        return Listed::Refused(41);
+    }
+    find_entry(image, s.layout.index, s.entries, frame, id as u64)
+}
+
+pub fn chunk_place(image: &[u8], frame: u64, name: &[u8]) -> Place
+    ensures { λ r. ⌜ r ≡ chunkPlace (now (image .entry)) frame (now (name .entry)) ⌝ }
+{
+    match lookup(image, frame, name) {
+        Listed::Found(e) => Place::At(Part {
+            start: e.location as usize,
+            size: chunk_bytes(e.n, e.m, e.kind) as usize,
+        }),
+        Listed::Refused(number) => Place::Refused(number),
+    }
+}
+
+// The part of the image itself; a refusal gives an empty part.
+pub fn chunk<'a>(image: &'a [u8], frame: u64, name: &[u8]) -> &'a [u8]
+    ensures { λ r. ⌜ now r ≡ bytesAt (now (image .entry)) (chunkPlace (now (image .entry)) frame (now (name .entry))) ⌝ }
+{
+    let place = chunk_place(image, frame, name);
+    part_at(image, place)
+}

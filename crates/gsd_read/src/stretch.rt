@@ -1,0 +1,39 @@
+// Stretches of bytes, a start and a count.
+ghost use mathlib.Core.Path.{_≡_};
+ghost use Prim.Native.Nat.{_+_, _^_, _<_, max, min};
+ghost use Rattle.gsd_format.specs.Bytes.{meets};
+
+pub fn greater(a: u64, b: u64) -> u64
+    ensures { λ r. ⌜ r ≡ max a b ⌝ }
+{
+    if a < b {
+        return b;
+    }
+    a
+}
+
+pub fn lesser(a: u64, b: u64) -> u64
+    ensures { λ r. ⌜ r ≡ min a b ⌝ }
+{
+    if a < b {
+        return a;
+    }
+    b
+}
+
+// Do the n bytes from a and the m bytes from b have one in common?
+pub fn share(a: u64, n: u64, b: u64, m: u64) -> bool
+    requires { ⌜ (a + n < 2 ^ 64) × (b + m < 2 ^ 64) ⌝ }
+    ensures { λ r. ⌜ r ≡ meets a n b m ⌝ }
+{
+    if b + m <= a {
+        return false;
+    }
+    if n == 0 {
+        return false;
+    }
+    if m == 0 {
+        return false;
+    }
+    b < a + n
+}
