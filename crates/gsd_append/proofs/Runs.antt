@@ -11,7 +11,7 @@ use Rattle.gsd_append.specs.declared.run.Run.{Run}
 use Rattle.gsd_append.specs.declared.plan.Heads.{Heads}
 use Rattle.gsd_append.specs.declared.plan.Plan.{Plan}
 use Rattle.gsd_append.specs.Exec.{Good, steps}
-use Rattle.gsd_append.specs.Runs.{none, bodyRun, nameRun, ofFour, entryRun, tab, clears, block, slots, runsOf, Ready}
+use Rattle.gsd_append.specs.Runs.{none, bodyRun, nameRun, ofFour, entryRun, tab, clears, block, slots, runsOf, headAt, headsFrom, planFrom, half, Ready}
 
 -- Tables
 
@@ -119,6 +119,28 @@ module _ (p : Plan) (r : ℕ) where
               to-slots ∙ behind (slots (p .heads)) (from-entries p) 4 (r - 3 - p .rows - 4 - p .fresh) refl e
               ∙ tab-first (entryRun p) (4 * p .rows) (r - 3 - p .rows - 4 - p .fresh - 4) h
 
+-- the runs that are there once, as they are laid in one list
+module _ (l : List ℕ) where
+  pub clears-at : (i : ℕ) → i < 3 → headAt l i ≡ getD (clears (headsFrom l)) i none
+  clears-at zero h = refl
+  clears-at (suc zero) h = refl
+  clears-at (suc (suc zero)) h = refl
+  clears-at (suc (suc (suc i))) h = absurd (omega arith)
+
+  pub block-at : (i : ℕ) → i < 4 → headAt l (3 + i) ≡ getD (block (headsFrom l)) i none
+  block-at zero h = refl
+  block-at (suc zero) h = refl
+  block-at (suc (suc zero)) h = refl
+  block-at (suc (suc (suc zero))) h = refl
+  block-at (suc (suc (suc (suc i)))) h = absurd (omega arith)
+
+  pub slots-at : (i : ℕ) → i < 4 → headAt l (7 + i) ≡ getD (slots (headsFrom l)) i none
+  slots-at zero h = refl
+  slots-at (suc zero) h = refl
+  slots-at (suc (suc zero)) h = refl
+  slots-at (suc (suc (suc zero))) h = refl
+  slots-at (suc (suc (suc (suc i)))) h = absurd (omega arith)
+
 -- Good runs
 
 pub good-more : (n m n′ m′ : ℕ) (r : Run) → n ≤ n′ → m ≤ m′ → Good n m r → Good n′ m′ r
@@ -145,3 +167,14 @@ module _ (n m : ℕ) (p : Plan) (x : Run) (g : Good n m x) where
   pub entry-fits : (k : ℕ) → x ≡ entryRun p k → p .slot + 32 * (p .rows - 1 - k / 4) + ofFour 0 8 24 16 (k % 4) ≤ n
   unfolding entryRun
   entry-fits k e = let h : Good n m (entryRun p k) = rw e at g in omega (arith, h .room)
+
+-- a plan as it is lent, with its laid runs
+abbrev lent : Plan → Heads → Plan
+lent p h = planFrom (p .rows) (p .fresh) h (p .«body_to») (p .«body_from») (p .«body_until») (p .«name_at») (p .«name_from») (p .«name_until») (p .slot) (p .frame) (p .n) (p .meta) (p .location)
+
+pub lent-run : (p : Plan) (h : Heads) (r : ℕ) → h ≡ p .heads → getD (runsOf (lent p h)) r none ≡ getD (runsOf p) r none
+lent-run p h r e = rw e
+
+pub lent-good : (n m : ℕ) (p : Plan) (h : Heads) (r : ℕ) → n ≤ half → m ≤ half → Ready n m p → r < 11 + p .fresh + 5 * p .rows → h ≡ p .heads
+    → Good half half (getD (runsOf (lent p h)) r none)
+lent-good n m p h r a b ready l e = rw e (good-more n m half half (getD (runsOf p) r none) a b (ready .good r (runs-inside p r l)))

@@ -70,7 +70,32 @@ runsOf p =
     ++ slots (p .heads)
     ++ tab (entryRun p) 0 (4 * p .rows)
 
--- a plan by its parts
+-- A plan by its parts, as it is lent: the runs that are there once lie in one list, six numbers to a run
+abbrev pub headAt : List ℕ → ℕ → Run
+headAt l k = record {
+  kind = getD l (6 * k) 0;
+  to = getD l (6 * k + 1) 0;
+  words = getD l (6 * k + 2) 0;
+  from = getD l (6 * k + 3) 0;
+  until = getD l (6 * k + 4) 0;
+  value = getD l (6 * k + 5) 0;
+}
+
+abbrev pub headsFrom : List ℕ → Heads
+headsFrom l = record {
+  «clear_index» = headAt l 0;
+  «keep_names» = headAt l 1;
+  «clear_names» = headAt l 2;
+  «copy_names» = headAt l 3;
+  «clear_block» = headAt l 4;
+  word24 = headAt l 5;
+  word32 = headAt l 6;
+  «copy_entries» = headAt l 7;
+  «clear_slots» = headAt l 8;
+  word8 = headAt l 9;
+  word16 = headAt l 10;
+}
+
 abbrev pub planFrom : ℕ → ℕ → Heads → List ℕ → List ℕ → List ℕ → List ℕ → List ℕ → List ℕ → ℕ → ℕ → List ℕ → List ℕ → List ℕ → Plan
 planFrom rows fresh heads bodyTo bodyFrom bodyUntil nameAt nameFrom nameUntil slot frame n meta location = record {
   rows = rows;

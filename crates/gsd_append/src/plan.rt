@@ -4,7 +4,7 @@ ghost use mathlib.Core.Path.{_≡_};
 ghost use Prim.Native.Nat.{_+_, _-_, _*_, _/_, _%_, _≤_, _<_};
 ghost use lib.ListN.{length, getD};
 ghost use Rattle.gsd_append.specs.Exec.{Good};
-ghost use Rattle.gsd_append.specs.Runs.{none, body, name, ofFour, entry, clears, block, slots, runsOf, planFrom, half};
+ghost use Rattle.gsd_append.specs.Runs.{none, body, name, ofFour, entry, headAt, headsFrom, planFrom, runsOf, half};
 
 // The runs that are there once, in their order; one that is not needed has no words.
 pub struct Heads {
@@ -43,40 +43,92 @@ pub struct Plan {
     pub location: [u64; 64],
 }
 
-// The runs that are there once, group by group.
-
-fn clear_run(heads: Heads, i: usize) -> Run
-    requires { ⌜ i < 3 ⌝ }
-    ensures { λ r. ⌜ r ≡ getD (clears heads) i none ⌝ }
+// The runs that are there once, in one array that can be lent, six numbers to a run.
+pub fn laid(heads: Heads) -> [u64; 66]
+    ensures { λ r. ⌜ headsFrom r ≡ heads ⌝ }
 {
-    match i {
-        0 => heads.clear_index,
-        1 => heads.keep_names,
-        _ => heads.clear_names,
-    }
+    [
+        heads.clear_index.kind,
+        heads.clear_index.to as u64,
+        heads.clear_index.words as u64,
+        heads.clear_index.from as u64,
+        heads.clear_index.until as u64,
+        heads.clear_index.value,
+        heads.keep_names.kind,
+        heads.keep_names.to as u64,
+        heads.keep_names.words as u64,
+        heads.keep_names.from as u64,
+        heads.keep_names.until as u64,
+        heads.keep_names.value,
+        heads.clear_names.kind,
+        heads.clear_names.to as u64,
+        heads.clear_names.words as u64,
+        heads.clear_names.from as u64,
+        heads.clear_names.until as u64,
+        heads.clear_names.value,
+        heads.copy_names.kind,
+        heads.copy_names.to as u64,
+        heads.copy_names.words as u64,
+        heads.copy_names.from as u64,
+        heads.copy_names.until as u64,
+        heads.copy_names.value,
+        heads.clear_block.kind,
+        heads.clear_block.to as u64,
+        heads.clear_block.words as u64,
+        heads.clear_block.from as u64,
+        heads.clear_block.until as u64,
+        heads.clear_block.value,
+        heads.word24.kind,
+        heads.word24.to as u64,
+        heads.word24.words as u64,
+        heads.word24.from as u64,
+        heads.word24.until as u64,
+        heads.word24.value,
+        heads.word32.kind,
+        heads.word32.to as u64,
+        heads.word32.words as u64,
+        heads.word32.from as u64,
+        heads.word32.until as u64,
+        heads.word32.value,
+        heads.copy_entries.kind,
+        heads.copy_entries.to as u64,
+        heads.copy_entries.words as u64,
+        heads.copy_entries.from as u64,
+        heads.copy_entries.until as u64,
+        heads.copy_entries.value,
+        heads.clear_slots.kind,
+        heads.clear_slots.to as u64,
+        heads.clear_slots.words as u64,
+        heads.clear_slots.from as u64,
+        heads.clear_slots.until as u64,
+        heads.clear_slots.value,
+        heads.word8.kind,
+        heads.word8.to as u64,
+        heads.word8.words as u64,
+        heads.word8.from as u64,
+        heads.word8.until as u64,
+        heads.word8.value,
+        heads.word16.kind,
+        heads.word16.to as u64,
+        heads.word16.words as u64,
+        heads.word16.from as u64,
+        heads.word16.until as u64,
+        heads.word16.value,
+    ]
 }
 
-fn block_run(heads: Heads, i: usize) -> Run
-    requires { ⌜ i < 4 ⌝ }
-    ensures { λ r. ⌜ r ≡ getD (block heads) i none ⌝ }
+fn head_at(heads: &[u64; 66], k: usize) -> Run
+    requires { ⌜ k < 11 ⌝ }
+    ensures { λ r. ⌜ r ≡ headAt (now (heads .entry)) k ⌝ }
 {
-    match i {
-        0 => heads.copy_names,
-        1 => heads.clear_block,
-        2 => heads.word24,
-        _ => heads.word32,
-    }
-}
-
-fn slots_run(heads: Heads, i: usize) -> Run
-    requires { ⌜ i < 4 ⌝ }
-    ensures { λ r. ⌜ r ≡ getD (slots heads) i none ⌝ }
-{
-    match i {
-        0 => heads.copy_entries,
-        1 => heads.clear_slots,
-        2 => heads.word8,
-        _ => heads.word16,
+    let i = 6 * k;
+    Run {
+        kind: heads[i],
+        to: heads[i + 1] as usize,
+        words: heads[i + 2] as usize,
+        from: heads[i + 3] as usize,
+        until: heads[i + 4] as usize,
+        value: heads[i + 5],
     }
 }
 
@@ -160,7 +212,7 @@ fn entry_at<'a>(
 pub fn run_at<'a>(
     rows: usize,
     fresh: usize,
-    heads: Heads,
+    heads: &'a [u64; 66],
     body_to: &'a [usize; 64],
     body_from: &'a [usize; 64],
     body_until: &'a [usize; 64],
@@ -175,11 +227,11 @@ pub fn run_at<'a>(
     r: usize,
 ) -> Run
     requires { ⌜ (rows ≤ 64) × ((fresh ≤ rows) × ((r < 11 + fresh + 5 * rows) ×
-        Good half half (getD (runsOf (planFrom rows fresh heads (now «body_to») (now «body_from») (now «body_until») (now «name_at») (now «name_from») (now «name_until») slot frame (now n) (now meta) (now location))) r none))) ⌝ }
-    ensures { λ x. ⌜ x ≡ getD (runsOf (planFrom rows fresh heads (now («body_to» .entry)) (now («body_from» .entry)) (now («body_until» .entry)) (now («name_at» .entry)) (now («name_from» .entry)) (now («name_until» .entry)) slot frame (now (n .entry)) (now (meta .entry)) (now (location .entry)))) r none ⌝ }
+        Good half half (getD (runsOf (planFrom rows fresh (headsFrom (now heads)) (now «body_to») (now «body_from») (now «body_until») (now «name_at») (now «name_from») (now «name_until») slot frame (now n) (now meta) (now location))) r none))) ⌝ }
+    ensures { λ x. ⌜ x ≡ getD (runsOf (planFrom rows fresh (headsFrom (now (heads .entry))) (now («body_to» .entry)) (now («body_from» .entry)) (now («body_until» .entry)) (now («name_at» .entry)) (now («name_from» .entry)) (now («name_until» .entry)) slot frame (now (n .entry)) (now (meta .entry)) (now (location .entry)))) r none ⌝ }
 {
     if r < 3 {
-        return clear_run(heads, r);
+        return head_at(heads, r);
     }
     let row = r - 3;
     if row < rows {
@@ -187,7 +239,7 @@ pub fn run_at<'a>(
     }
     let b = row - rows;
     if b < 4 {
-        return block_run(heads, b);
+        return head_at(heads, 3 + b);
     }
     let j = b - 4;
     if j < fresh {
@@ -195,7 +247,7 @@ pub fn run_at<'a>(
     }
     let e = j - fresh;
     if e < 4 {
-        return slots_run(heads, e);
+        return head_at(heads, 7 + e);
     }
     entry_at(rows, slot, frame, n, meta, location, e - 4)
 }

@@ -1,5 +1,6 @@
 // The loop over the runs of a plan.
 use crate::plan::Plan;
+use crate::plan::laid;
 use crate::plan::run_at;
 use crate::run::stores;
 ghost use mathlib.Core.Path.{_≡_};
@@ -29,7 +30,7 @@ pub fn turn(
     ensures { λ t. ⌜ TurnSays (now (sheet .entry)) (now (image .entry)) plan run word limit t (now (image .exit)) ⌝ }
 {
     let count = 11 + plan.fresh + 5 * plan.rows;
-    let heads = plan.heads;
+    let heads = laid(plan.heads);
     let mut r = run;
     let mut w = word;
     let mut left = limit;
@@ -37,7 +38,7 @@ pub fn turn(
         let x = run_at(
             plan.rows,
             plan.fresh,
-            heads,
+            &heads,
             &plan.body_to,
             &plan.body_from,
             &plan.body_until,
