@@ -13,7 +13,10 @@ use Rattle.gsd_stores.specs.Sheet.{rowsOf}
 use Rattle.gsd_stores.specs.Plan.{planOf}
 use Rattle.gsd_stores.specs.Append.{appendTest, storesFor, appended}
 use Rattle.gsd_stores.proofs.Sheet.{Exact, accepted}
-use Rattle.gsd_stores.proofs.Valid.{valid}
+use Rattle.gsd_stores.proofs.Valid.{Valid, valid, Ready as Accepted, ready}
+use Rattle.gsd_stores.proofs.View.{Is}
+use Rattle.gsd_stores.proofs.Shown.{opens-shown}
+use Rattle.gsd_stores.proofs.Moments.{stores-are}
 use Rattle.gsd_append.specs.declared.plan.Plan.{Plan}
 use Rattle.gsd_append.specs.declared.turn.Turned.{Turned}
 use Rattle.gsd_append.specs.Exec.{steps, exec, storesOf}
@@ -34,9 +37,17 @@ cursor-start c = record { run = omega arith; word = omega arith }
 
 module _ (x sheet : List ℕ) (ok : appendTest x sheet ≡ 0) (ox : Octets x) (os : Octets sheet) (c : Plan)
     (m : Matches (viewOf x) sheet (planOf (viewOf x) (rowsOf sheet)) c) where
+  valid-rows : Valid x (rowsOf sheet)
+  valid-rows = valid x sheet os ok
+
+  ready-plan : Accepted (viewOf x) (rowsOf sheet) (planOf (viewOf x) (rowsOf sheet))
+  ready-plan = ready x (rowsOf sheet) valid-rows
+
+  shown : Is x (viewOf x)
+  shown = opens-shown x (valid-rows .opens)
+
   pub plan-stores : storesOf sheet x (steps (runsOf c)) ≡ storesFor x sheet
-  unfolding storesFor
-  plan-stores = rw (ok, storesFor) (stores-listed x sheet (valid x sheet os ok) (accepted-exact x sheet ok) ox os c m)
+  plan-stores = stores-listed sheet ready-plan shown (accepted-exact x sheet ok) ox os c m ∙ sym (stores-are x sheet ok)
 
   pub plan-count : length (steps (runsOf c)) ≡ length (storesFor x sheet)
   plan-count = sym (storesOf-length sheet x (steps (runsOf c))) ∙ ap length plan-stores
@@ -45,7 +56,7 @@ module _ (x sheet : List ℕ) (ok : appendTest x sheet ≡ 0) (ox : Octets x) (o
   plan-prefix k = exec-after sheet x (steps (runsOf c)) k ∙ ap (λ xs. after x (take k xs)) plan-stores
 
   pub append-ready : Ready (length x) (length sheet) c
-  append-ready = plan-ready x sheet (valid x sheet os ok) (accepted-exact x sheet ok) c m
+  append-ready = plan-ready sheet ready-plan shown (accepted-exact x sheet ok) c m (valid-rows .few)
 
   -- a turn from the beginning makes the first so many stores, as many as its limit lets it
   pub turn-appends : (limit : ℕ) (t : Turned) (y : List ℕ) → TurnSays sheet x c 0 0 limit t y

@@ -10,7 +10,7 @@ use lib.ListN.{length, getD, take, List·getD-eq-default}
 use Rattle.gsd_format.specs.Bytes.{le, leBytes}
 use Rattle.gsd_format.specs.Names.{flat}
 use Rattle.gsd_format.proofs.Bytes.{Octets, Text, zero-le}
-use Rattle.gsd_stores.specs.Stores.{after, eightOf, words, up}
+use Rattle.gsd_stores.specs.Stores.{Store, after, eightOf, words, up}
 use Rattle.gsd_stores.specs.View.{View, entriesEnd, namesEnd}
 use Rattle.gsd_stores.specs.Plan.{Plan as Defined}
 use Rattle.gsd_stores.specs.Steps.{clearIndex, clearNames, moved}
@@ -25,7 +25,7 @@ use Rattle.gsd_append.specs.Matches.{copied, ifMoved, endWord, wordsBehi
 use Rattle.gsd_append.proofs.Words.{cut-before, cut-behind, place-other, word-number}
 use Rattle.gsd_append.proofs.Octets.{no-octets}
 use Rattle.gsd_append.proofs.RunWords.{number-stores, copied-stores}
-use Rattle.gsd_append.proofs.Makes.{Makes, AnyImage, _⨾_}
+use Rattle.gsd_append.proofs.Makes.{Makes, AnyImage, Always, _⨾_}
 
 -- A text in an image, cut off at its end; the zeros behind it
 
@@ -40,14 +40,14 @@ zero-behind : (t : List ℕ) (i : ℕ) → length t ≤ i → 0 ≡ le 8 t i
 zero-behind t i h = sym (zero-le 8 t i (λ k l. List·getD-eq-default t 0 (omega arith)))
 
 -- zeros in words behind a text
-zero-stores : (sheet t : List ℕ) (base to n : ℕ) → Octets t → (0 < n → base + length t ≤ to) → Makes sheet AnyImage AnyImage (number to n 0 ∷ []) (words t base (up to n))
+zero-stores : (sheet t : List ℕ) (base to n : ℕ) → Octets t → (0 < n → base + length t ≤ to) → Always sheet (number to n 0 ∷ []) (words t base (up to n))
 zero-stores sheet t base to n o h = record {
   same = λ img u. number-stores sheet t base o to n 0 img (λ k l. zero-behind t (to + 8 * k - base) (omega (arith, h (omega arith))));
   final = λ img u. tt;
 }
 
 -- a number in one word
-number-store : (sheet : List ℕ) (at w : ℕ) → Makes sheet AnyImage AnyImage (number at 1 w ∷ []) (words (leBytes 8 w) at (up at 1))
+number-store : (sheet : List ℕ) (at w : ℕ) → Always sheet (number at 1 w ∷ []) (words (leBytes 8 w) at (up at 1))
 unfolding steps stepsFrom storesOf words up leBytes
 number-store sheet at w = record {
   same = λ img u.
@@ -65,7 +65,9 @@ module _ {x₀ : List ℕ} {v : View} {p : Defined} {h : Heads} (sheet : List �
   index-cleared : Makes sheet (Base x₀ v) (λ x. Base x₀ v x × IndexClear v x) (h .«clear_index» ∷ []) (clearIndex v)
   unfolding clearIndex
   index-cleared = record {
-    same = λ img b. rw (m .clearIndex) (zero-stores sheet [] 0 (entriesEnd v) (4 * (v .layout .slots - length (v .entries))) no-octets (λ l. omega arith) .same img tt);
+    same = λ img b.
+        let n : ℕ = 4 * (v .layout .slots - length (v .entries)) in
+        rw (m .clearIndex) (zero-stores sheet [] 0 (entriesEnd v) n no-octets (λ l. omega arith) .same img tt);
     final = clear-index {x₀ = x₀} {W = AnyImage} {v = v} (λ y b. tt) .final;
   }
 
@@ -87,17 +89,23 @@ module _ {x₀ : List ℕ} {v : View} {p : Defined} {h : Heads} (sheet : List �
       one : ℕ
       one = min 1 (wordsBehind v)
 
-      keep : Makes sheet (λ x. Base x₀ v x × IndexClear v x) AnyImage (copied (endWord v) one (endWord v) (namesEnd v) ∷ []) (words names at (up (endWord v) one))
+      first : List Store
+      first = words names at (up (endWord v) one)
+
+      others : List Store
+      others = words names at (up (endWord v + 8 * one) (wordsBehind v - 1))
+
+      keep : Makes sheet (λ x. Base x₀ v x × IndexClear v x) AnyImage (copied (endWord v) one (endWord v) (namesEnd v) ∷ []) first
       keep = record {
         same = λ img b. copied-stores sheet names at o (endWord v) one (endWord v) (namesEnd v) img (omega arith) (inr (omega arith)) (λ k l.
             text-cut img at names (namesEnd v) (endWord v + k) (b .0 .is .names .each) refl (omega arith));
         final = λ img b. tt;
       }
 
-      clear : Makes sheet AnyImage AnyImage (number (endWord v + 8 * one) (wordsBehind v - 1) 0 ∷ []) (words names at (up (endWord v + 8 * one) (wordsBehind v - 1)))
+      clear : Always sheet (number (endWord v + 8 * one) (wordsBehind v - 1) 0 ∷ []) others
       clear = zero-stores sheet names at (endWord v + 8 * one) (wordsBehind v - 1) o (λ l. omega arith)
 
-      two : words names at (up (endWord v) (wordsBehind v)) ≡ words names at (up (endWord v) one) ++ words names at (up (endWord v + 8 * one) (wordsBehind v - 1))
+      two : words names at (up (endWord v) (wordsBehind v)) ≡ first ++ others
       two =
           ap (words names at) (up-cut one (endWord v) (wordsBehind v) (omega arith) ∙ ap (λ n. up (endWord v) one ++ up (endWord v + 8 * one) n) (omega arith))
           ∙ words-append names at (up (endWord v) one) (up (endWord v + 8 * one) (wordsBehind v - 1))
@@ -108,12 +116,20 @@ module _ {x₀ : List ℕ} {v : View} {p : Defined} {h : Heads} (sheet : List �
 
 -- Steps 3 and 5
 
--- the text t of a block that begins at a, in the first m of its words, with zeros behind it, goes to b; then the header's words say so
+-- The runs of a block's move from a to b, the list up to `until` in its first m of n words and zeros behind it; then the header's
+-- words at h say so
+abbrev pub moveRuns : Bool → ℕ → ℕ → ℕ → ℕ → ℕ → ℕ → ℕ → List Run
+moveRuns moves a until b m n h count =
+    ifMoved moves (copied b m a until)
+    ∷ ifMoved moves (number (b + 8 * m) (n - m) 0)
+    ∷ ifMoved moves (number h 1 b)
+    ∷ ifMoved moves (number (h + 8) 1 count)
+    ∷ []
+
 pub block-moved : {P Q : List ℕ → Type 0} (sheet : List ℕ) (flag : Bool) (a b m n : ℕ) (t : List ℕ) (h count : ℕ) → Octets t →
-    a + length t ≤ b → length t ≤ 8 * m → m ≤ n → ((img : List ℕ) → P img → Text img a t) → ((img : List ℕ) → P img → Q (after img (moved flag b n t h count))) →
-    Makes sheet P Q
-    (ifMoved flag (copied b m a (a + length t)) ∷ ifMoved flag (number (b + 8 * m) (n - m) 0) ∷ ifMoved flag (number h 1 b) ∷ ifMoved flag (number (h + 8) 1 count) ∷ [])
-    (moved flag b n t h count)
+    a + length t ≤ b → length t ≤ 8 * m → m ≤ n → ((img : List ℕ) → P img → Text img a t) →
+    ((img : List ℕ) → P img → Q (after img (moved flag b n t h count))) →
+    Makes sheet P Q (moveRuns flag a (a + length t) b m n h count) (moved flag b n t h count)
 unfolding moved steps stepsFrom storesOf
 block-moved sheet false a b m n t h count o off few fits text final = record { same = λ img u. refl; final = final }
 block-moved {P} sheet true a b m n t h count o off few fits text final = record {
@@ -129,7 +145,7 @@ block-moved {P} sheet true a b m n t h count o off few fits text final = record 
       final = λ img u. tt;
     }
 
-    clear : Makes sheet AnyImage AnyImage (number (b + 8 * m) (n - m) 0 ∷ []) (words t b (up (b + 8 * m) (n - m)))
+    clear : Always sheet (number (b + 8 * m) (n - m) 0 ∷ []) (words t b (up (b + 8 * m) (n - m)))
     clear = zero-stores sheet t b (b + 8 * m) (n - m) o (λ l. omega arith)
 
     two : words t b (up b m) ++ words t b (up (b + 8 * m) (n - m)) ≡ words t b (up b n)

@@ -9,17 +9,18 @@ use Rattle.gsd_format.specs.Header.{greatestLength}
 use Rattle.gsd_format.specs.Names.{flat}
 use Rattle.gsd_format.proofs.Lists.{Each, each-at, each-append}
 use Rattle.gsd_format.proofs.Names.{flat-none, flat-size, flat-sizes}
-use Rattle.gsd_stores.specs.View.{View, viewOf, entriesEnd, namesEnd}
-use Rattle.gsd_stores.specs.Sheet.{Row, rowsOf, rowCount, tableEnd}
-use Rattle.gsd_stores.specs.Plan.{Plan as Defined, planOf, dataEnd, namesDone}
+use Rattle.gsd_stores.specs.View.{View, entriesEnd, namesEnd, namelistEnd}
+use Rattle.gsd_stores.specs.Sheet.{Row, rowsOf, rowCount, tableEnd, mostRows}
+use Rattle.gsd_stores.specs.Plan.{Plan as Defined, dataEnd, namesDone}
 use Rattle.gsd_stores.specs.Steps.{nameBlock}
 use Rattle.gsd_stores.specs.Demand3.{noRow}
 use Rattle.gsd_stores.proofs.Sheet.{nameAt, bodyAt, Exact, rows-count, name-length, name-inside, body-length, body-inside, start-next}
 use Rattle.gsd_stores.proofs.Rows.{offset-inside, new-names, new-few}
 use Rattle.gsd_stores.proofs.Plan.{positions, segmentsAfter, entries-count}
 use Rattle.gsd_stores.proofs.View.{Is, is-long}
-use Rattle.gsd_stores.proofs.Valid.{Valid, Ready as Accepted, ready as ready-plan}
-use Rattle.gsd_stores.proofs.Shown.{opens-shown}
+use Rattle.gsd_stores.proofs.Valid.{Ready as Accepted}
+use Rattle.gsd_stores.proofs.Moments.{ready-good}
+use Rattle.gsd_stores.proofs.Whole.{block-even}
 use Rattle.gsd_append.specs.declared.run.Run.{Run}
 use Rattle.gsd_append.specs.declared.plan.Plan.{Plan}
 use Rattle.gsd_append.specs.Exec.{Good, steps}
@@ -27,7 +28,20 @@ use Rattle.gsd_append.specs.Runs.{number, none, body, name, bodyRun, nam
 use Rattle.gsd_append.specs.Matches.{copied, ifMoved, nameWords, HeadsMatch, NameMatch, Matches}
 use Rattle.gsd_append.proofs.Steps.{stepsFrom-length}
 use Rattle.gsd_append.proofs.Runs.{runs-length}
-use Rattle.gsd_append.proofs.StoreList.{names-even}
+use Rattle.gsd_append.proofs.Blocks.{moveRuns}
+
+-- all runs of a list are good
+pub record AllGood (n m : ℕ) (rs : List Run) : Type 0 where
+  pub each : Each (Good n m) rs
+
+infixl 20 _⊹_
+_⊹_ : {n m : ℕ} {a b : List Run} → AllGood n m a → AllGood n m b → AllGood n m (a ++ b)
+_⊹_ {n} {m} {a} {b} f g = record { each = each-append (Good n m) a b (f .each) (g .each) }
+
+good-tab : {n m : ℕ} (f : ℕ → Run) (i k : ℕ) → ((j : ℕ) → j < i + k → Good n m (f j)) → AllGood n m (tab f i k)
+unfolding tab
+good-tab f i zero h = record { each = tt }
+good-tab f i (suc k) h = record { each = (h i (omega arith), good-tab f (suc i) k (λ j l. h j (omega arith)) .each) }
 
 -- Good runs, kind by kind
 
@@ -77,33 +91,15 @@ module _ {n m : ℕ} where
   good-moved true r h = h refl
   good-moved false r h = good-number 0 0 0 (omega arith)
 
--- all runs of a list are good
-pub record AllGood (n m : ℕ) (rs : List Run) : Type 0 where
-  pub each : Each (Good n m) rs
-
-infixl 20 _⊹_
-_⊹_ : {n m : ℕ} {a b : List Run} → AllGood n m a → AllGood n m b → AllGood n m (a ++ b)
-_⊹_ {n} {m} {a} {b} f g = record { each = each-append (Good n m) a b (f .each) (g .each) }
-
-good-tab : {n m : ℕ} (f : ℕ → Run) (i k : ℕ) → ((j : ℕ) → j < i + k → Good n m (f j)) → AllGood n m (tab f i k)
-unfolding tab
-good-tab f i zero h = record { each = tt }
-good-tab f i (suc k) h = record { each = (h i (omega arith), good-tab f (suc i) k (λ j l. h j (omega arith)) .each) }
-
-module _ {n m : ℕ} where
   -- a block that moves from a to b
   good-move : (moves : Bool) (a until b k total h count : ℕ) → a ≤ until → until ≤ n → k ≤ total → h + 16 ≤ n → (moves ≡ true → b + 8 * total ≤ n) →
-      AllGood n m (ifMoved moves (copied b k a until) ∷ ifMoved moves (number (b + 8 * k) (total - k) 0)
-      ∷ ifMoved moves (number h 1 b) ∷ ifMoved moves (number (h + 8) 1 count) ∷ [])
-  good-move moves a until b k total h count o e few low fits = record {
-    each = (
-      good-moved moves (copied b k a until) (λ t. good-copied b k a until (omega (arith, fits t)) o e),
-      (
-        good-moved moves (number (b + 8 * k) (total - k) 0) (λ t. good-number (b + 8 * k) (total - k) 0 (omega (arith, fits t))),
-        (good-moved moves (number h 1 b) (λ t. good-number h 1 b (omega arith)), (good-moved moves (number (h + 8) 1 count) (λ t. good-number (h + 8) 1 count (omega arith)), tt)),
-      ),
-    );
-  }
+      AllGood n m (moveRuns moves a until b k total h count)
+  good-move moves a until b k total h count o e few low fits =
+      let copy : Good n m (ifMoved moves (copied b k a until)) = good-moved moves _ (λ t. good-copied b k a until (omega (arith, fits t)) o e) in
+      let clear : Good n m (ifMoved moves (number (b + 8 * k) (total - k) 0)) = good-moved moves _ (λ t. good-number _ _ 0 (omega (arith, fits t))) in
+      let place : Good n m (ifMoved moves (number h 1 b)) = good-moved moves _ (λ t. good-number h 1 b (omega arith)) in
+      let size : Good n m (ifMoved moves (number (h + 8) 1 count)) = good-moved moves _ (λ t. good-number (h + 8) 1 count (omega arith)) in
+      record { each = (copy, (clear, (place, (size, tt)))) }
 
 -- runs in an image that opens have few words
 steps-few : (n m : ℕ) (rs : List Run) → n ≤ greatestLength → Each (Good n m) rs → length (steps rs) ≤ 134217728 * length rs
@@ -129,103 +125,101 @@ taken moves a b e = rw e
 
 -- The runs of a plan
 
-module _ (x sheet : List ℕ) (ok : Valid x (rowsOf sheet)) (exact : Exact sheet) (c : Plan) where
+module _ {x : List ℕ} {v : View} {p : Defined} (sheet : List ℕ) (r : Accepted v (rowsOf sheet) p) (is : Is x v) (exact : Exact sheet) (c : Plan)
+    (m : Matches v sheet p c) where
   abbrev rows : List Row
   rows = rowsOf sheet
-
-  abbrev v : View
-  v = viewOf x
-
-  abbrev p : Defined
-  p = planOf v rows
-
-  r : Accepted v rows p
-  r = ready-plan x rows ok
-
-  is : Is x v
-  is = opens-shown x (ok .opens)
 
   abbrev Fine : Run → Type 0
   Fine = Good (length x) (length sheet)
 
-  module _ (m : Matches v sheet p c) where
-    clears-good : AllGood (length x) (length sheet) (clears (c .heads))
-    clears-good =
-        let h : HeadsMatch v p (c .heads) = m .heads in
-        let long : length x ≡ v .layout .len = is-long is in
-        rw (h .clearIndex, h .keepNames, h .clearNames)
-        (record {
-          each = (
-            good-number _ _ _ (omega (arith, is .entries .few, is .blocks .indexHigh)),
-            (
-              good-copied _ _ _ _ (omega (arith, is .names .few, is .blocks .namelistHigh)) (omega arith) (omega (arith, is .names .few, is .blocks .namelistHigh)),
-              (good-number _ _ _ (omega (arith, is .names .few, is .blocks .namelistHigh)), tt),
-            ),
-          );
-        })
+  clears-good : AllGood (length x) (length sheet) (clears (c .heads))
+  clears-good =
+      let h : HeadsMatch v p (c .heads) = m .heads in
+      let index : v .layout .index + 32 * v .layout .slots ≤ length x = omega (arith, is .blocks .indexHigh, is-long is) in
+      let names : namelistEnd (v .layout) ≤ length x = omega (arith, is .blocks .namelistHigh, is-long is) in
+      let clear : Fine (c .heads .«clear_index») = rw (h .clearIndex) (good-number _ _ 0 (omega (arith, is .entries .few))) in
+      let keep : Fine (c .heads .«keep_names»)
+      = rw (h .keepNames) (good-copied _ _ _ _ (omega (arith, is .names .few)) (omega arith) (omega (arith, is .names .few))) in
+      let others : Fine (c .heads .«clear_names») = rw (h .clearNames) (good-number _ _ 0 (omega (arith, is .names .few))) in
+      record { each = (clear, (keep, (others, tt))) }
 
-    body-good : (i : ℕ) → i < length rows → Fine (bodyRun c i)
-    unfolding bodyRun
-    body-good i l =
-        let k : i < rowCount sheet = rw rows-count at l in
-        let end : nameAt sheet (suc i) ≡ bodyAt sheet i + length (getD rows i noRow .body) = omega (arith, start-next sheet 4 (tableEnd sheet) i, body-length sheet exact i k) in
-        rw (m .bodies i l .to, m .bodies i l .from, m .bodies i l .until)
-        (good-body _ _ _ (omega (arith, offset-inside rows i l, ap length (r .plan .body), positions p, r .fits, is-long is)) (omega arith)
-        (omega (arith, start-next sheet 4 (tableEnd sheet) i, body-inside sheet exact i k)))
+  body-good : (i : ℕ) → i < length rows → Fine (bodyRun c i)
+  unfolding bodyRun
+  body-good i l =
+      let k : i < rowCount sheet = rw rows-count at l in
+      let end : nameAt sheet (suc i) ≡ bodyAt sheet i + length (getD rows i noRow .body)
+      = omega (arith, start-next sheet 4 (tableEnd sheet) i, body-length sheet exact i k) in
+      rw (m .bodies i l .to, m .bodies i l .from, m .bodies i l .until)
+      (good-body _ _ _ (omega (arith, offset-inside rows i l, ap length (r .plan .body), positions p, r .fits, is-long is)) (omega arith)
+      (omega (arith, start-next sheet 4 (tableEnd sheet) i, body-inside sheet exact i k)))
 
-    name-good : (j : ℕ) → j < length (p .fresh) → Fine (nameRun c j)
-    unfolding nameRun
-    name-good j l =
-        let w : NameMatch v sheet p c j = m .names j l in
-        let k : w .row < rowCount sheet = rw rows-count at (w .within) in
-        let size : length (getD (p .fresh) j []) ≡ length (getD rows (w .row) noRow .name) = ap length (w .name) in
-        let end : ℕ = nameBlock v p + 64 * segmentsAfter v p in
-        let before : length (flat (v .names ++ take j (p .fresh))) ≡ length (flat (v .names)) + length (flat (take j (p .fresh))) = flat-sizes (v .names) (take j (p .fresh)) in
-        rw (w .at, w .from, w .until)
-        (good-name _ _ _ end (omega arith) (name-inside sheet exact (w .row) k)
-        (omega (arith, name-length sheet exact (w .row) k, flat-inside (p .fresh) j l, r .plan .namesFit)) (omega (arith, names-even r)) (omega (arith, r .blocks .namelistHigh, is-long is)))
+  name-good : (j : ℕ) → j < length (p .fresh) → Fine (nameRun c j)
+  unfolding nameRun
+  name-good j l =
+      let w : NameMatch v sheet p c j = m .names j l in
+      let k : w .row < rowCount sheet = rw rows-count at (w .within) in
+      let size : length (getD (p .fresh) j []) ≡ length (getD rows (w .row) noRow .name) = ap length (w .name) in
+      let end : ℕ = nameBlock v p + 64 * segmentsAfter v p in
+      let before : length (flat (v .names ++ take j (p .fresh))) ≡ length (flat (v .names)) + length (flat (take j (p .fresh)))
+      = flat-sizes (v .names) (take j (p .fresh)) in
+      rw (w .at, w .from, w .until)
+      (good-name _ _ _ end (omega arith) (name-inside sheet exact (w .row) k)
+      (omega (arith, name-length sheet exact (w .row) k, flat-inside (p .fresh) j l, r .plan .namesFit))
+      (omega (arith, block-even (ready-good v rows p r))) (omega (arith, r .blocks .namelistHigh, is-long is)))
 
-    entry-good : (k : ℕ) → k < 4 * c .rows → Fine (entryRun c k)
-    unfolding entryRun
-    entry-good k l =
-        good-number _ 1 _ (omega (arith, four-low (k % 4), m .slot, m .rows, entries-count v rows p (r .plan), r .plan .entriesFit, r .blocks .indexHigh, is-long is))
+  entry-good : (k : ℕ) → k < 4 * c .rows → Fine (entryRun c k)
+  unfolding entryRun
+  entry-good k l =
+      good-number _ 1 _ (omega (
+        arith,
+        four-low (k % 4),
+        m .slot,
+        m .rows,
+        entries-count v rows p (r .plan),
+        r .plan .entriesFit,
+        r .blocks .indexHigh,
+        is-long is,
+      ))
 
-    block-good : AllGood (length x) (length sheet) (block (c .heads))
-    block-good =
-        let h : HeadsMatch v p (c .heads) = m .heads in
-        rw (h .copyNames, h .clearBlock, h .word24, h .word32)
-        (good-move (p .namesMove) (v .layout .namelist) (namesEnd v) (dataEnd p) (nameWords v) (8 * p .segments) 24 (p .segments) (omega arith)
-        (omega (arith, is .names .few, is .blocks .namelistHigh, is-long is)) (omega (arith, is .names .few, r .plan .twiceSegments)) (omega (arith, is .front .low))
-        (λ e. omega (arith, taken (p .namesMove) (dataEnd p + 64 * p .segments) (dataEnd p) e, positions p, r .fits, is-long is)))
+  block-good : AllGood (length x) (length sheet) (block (c .heads))
+  block-good =
+      let h : HeadsMatch v p (c .heads) = m .heads in
+      rw (h .copyNames, h .clearBlock, h .word24, h .word32)
+      (good-move (p .namesMove) (v .layout .namelist) (namesEnd v) (dataEnd p) (nameWords v) (8 * p .segments) 24 (p .segments) (omega arith)
+      (omega (arith, is .names .few, is .blocks .namelistHigh, is-long is)) (omega (arith, is .names .few, r .plan .twiceSegments))
+      (omega (arith, is .front .low))
+      (λ e. omega (arith, taken (p .namesMove) (dataEnd p + 64 * p .segments) (dataEnd p) e, positions p, r .fits, is-long is)))
 
-    slots-good : AllGood (length x) (length sheet) (slots (c .heads))
-    slots-good =
-        let h : HeadsMatch v p (c .heads) = m .heads in
-        let count : ℕ = length (v .entries) in
-        let place : namesDone p + 8 * (4 * count) ≡ namesDone p + 32 * count = omega arith in
-        let left : 4 * p .slots - 4 * count ≡ 4 * (p .slots - count) = omega arith in
-        rw (h .copyEntries, h .clearSlots, h .word8, h .word16, ← place, ← left)
-        (good-move (p .indexMoves) (v .layout .index) (entriesEnd v) (namesDone p) (4 * count) (4 * p .slots) 8 (p .slots) (omega arith)
-        (omega (arith, is .entries .few, is .blocks .indexHigh, is-long is)) (omega (arith, is .entries .few, r .plan .twiceSlots)) (omega (arith, is .front .low))
-        (λ e. omega (arith, taken (p .indexMoves) (namesDone p + 32 * p .slots) (namesDone p) e, r .fits, is-long is)))
+  slots-good : AllGood (length x) (length sheet) (slots (c .heads))
+  slots-good =
+      let h : HeadsMatch v p (c .heads) = m .heads in
+      let count : ℕ = length (v .entries) in
+      let place : namesDone p + 8 * (4 * count) ≡ namesDone p + 32 * count = omega arith in
+      let left : 4 * p .slots - 4 * count ≡ 4 * (p .slots - count) = omega arith in
+      rw (h .copyEntries, h .clearSlots, h .word8, h .word16, ← place, ← left)
+      (good-move (p .indexMoves) (v .layout .index) (entriesEnd v) (namesDone p) (4 * count) (4 * p .slots) 8 (p .slots) (omega arith)
+      (omega (arith, is .entries .few, is .blocks .indexHigh, is-long is)) (omega (arith, is .entries .few, r .plan .twiceSlots))
+      (omega (arith, is .front .low))
+      (λ e. omega (arith, taken (p .indexMoves) (namesDone p + 32 * p .slots) (namesDone p) e, r .fits, is-long is)))
 
-    runs-good : AllGood (length x) (length sheet) (runsOf c)
-    unfolding runsOf
-    runs-good =
-        clears-good
-        ⊹ good-tab (bodyRun c) 0 (c .rows) (λ i l. body-good i (omega (arith, m .rows)))
-        ⊹ block-good
-        ⊹ good-tab (nameRun c) 0 (c .fresh) (λ j l. name-good j (omega (arith, m .fresh)))
-        ⊹ slots-good
-        ⊹ good-tab (entryRun c) 0 (4 * c .rows) (λ k l. entry-good k (omega arith))
+  runs-good : AllGood (length x) (length sheet) (runsOf c)
+  unfolding runsOf
+  runs-good =
+      clears-good
+      ⊹ good-tab (bodyRun c) 0 (c .rows) (λ i l. body-good i (omega (arith, m .rows)))
+      ⊹ block-good
+      ⊹ good-tab (nameRun c) 0 (c .fresh) (λ j l. name-good j (omega (arith, m .fresh)))
+      ⊹ slots-good
+      ⊹ good-tab (entryRun c) 0 (4 * c .rows) (λ k l. entry-good k (omega arith))
 
-    pub plan-ready : Ready (length x) (length sheet) c
-    plan-ready =
-        let rows-few : c .rows ≤ 64 = omega (arith, m .rows, ok .few) in
-        let fresh-few : c .fresh ≤ c .rows = omega (arith, m .rows, m .fresh, ap length (r .plan .fresh), new-few (new-names (v .names) rows)) in
-        record {
-          rows = rows-few;
-          fresh = fresh-few;
-          good = each-at Fine (runsOf c) none (runs-good .each);
-          count = omega (arith, steps-few (length x) (length sheet) (runsOf c) (is .front .high) (runs-good .each), runs-length c);
-        }
+  pub plan-ready : length rows ≤ mostRows → Ready (length x) (length sheet) c
+  plan-ready few =
+      let rows-few : c .rows ≤ 64 = omega (arith, m .rows, few) in
+      let fresh-few : c .fresh ≤ c .rows = omega (arith, m .rows, m .fresh, ap length (r .plan .fresh), new-few (new-names (v .names) rows)) in
+      record {
+        rows = rows-few;
+        fresh = fresh-few;
+        good = each-at Fine (runsOf c) none (runs-good .each);
+        count = omega (arith, steps-few (length x) (length sheet) (runsOf c) (is .front .high) (runs-good .each), runs-length c);
+      }

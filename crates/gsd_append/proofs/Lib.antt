@@ -1,6 +1,9 @@
 -- Laws of runs, their steps and their stores.
 pub mod Words
 pub mod Steps
+pub mod Runs
+pub mod Turns
+-- a plan that matches an append makes its stores
 pub mod Octets
 pub mod RunWords
 pub mod Makes
@@ -12,7 +15,5 @@ pub mod SheetRows
 pub mod Filling
 pub mod RowRuns
 pub mod StoreList
-pub mod Runs
-pub mod Turns
 pub mod GoodRuns
 pub mod Appends

@@ -12,7 +12,8 @@ use Rattle.gsd_append.proofs.Steps.{steps-append, storesOf-append, stor
 
 pub exec-all : (sheet img : List ℕ) (ss : List Step) → exec sheet img ss ≡ after img (storesOf sheet img ss)
 exec-all sheet img ss =
-    let all : take (length ss) (storesOf sheet img ss) ≡ storesOf sheet img ss = ap (λ n. take n (storesOf sheet img ss)) (sym (storesOf-length sheet img ss)) ∙ take-length (storesOf sheet img ss) in
+    let xs : List Store = storesOf sheet img ss in
+    let all : take (length ss) xs ≡ xs = ap (λ n. take n xs) (sym (storesOf-length sheet img ss)) ∙ take-length xs in
     ap (exec sheet img) (sym (take-length ss)) ∙ exec-after sheet img ss (length ss) ∙ ap (after img) all
 
 -- from every image with P the runs make these stores, and then it has Q
@@ -23,18 +24,22 @@ pub record Makes (sheet : List ℕ) (P Q : List ℕ → Type 0) (rs : List Run) 
 abbrev pub AnyImage : List ℕ → Type 0
 AnyImage img = Unit
 
--- stores that depend on no image, where it is known what they lead to
-pub makes-from : {sheet : List ℕ} {P Q : List ℕ → Type 0} {rs : List Run} {xs : List Store} → Makes sheet AnyImage AnyImage rs xs →
+-- from every image; and so from those with P, where it is known what the stores lead to
+abbrev pub Always : List ℕ → List Run → List Store → Type 0
+Always sheet rs xs = Makes sheet AnyImage AnyImage rs xs
+
+pub makes-from : {sheet : List ℕ} {P Q : List ℕ → Type 0} {rs : List Run} {xs : List Store} → Always sheet rs xs →
     ((img : List ℕ) → P img → Q (after img xs)) → Makes sheet P Q rs xs
 makes-from f q = record { same = λ img p. f .same img tt; final = q }
 
 infixl 20 _⨾_
-pub _⨾_ : {sheet : List ℕ} {P Q R : List ℕ → Type 0} {a b : List Run} {xs ys : List Store} → Makes sheet P Q a xs → Makes sheet Q R b ys → Makes sheet P R (a ++ b) (xs ++ ys)
+pub _⨾_ : {sheet : List ℕ} {P Q R : List ℕ → Type 0} {a b : List Run} {xs ys : List Store} →
+    Makes sheet P Q a xs → Makes sheet Q R b ys → Makes sheet P R (a ++ b) (xs ++ ys)
 _⨾_ {sheet} {a} {b} {xs} {ys} f g = record {
   same = λ img p.
-      let left : exec sheet img (steps a) ≡ after img xs = exec-all sheet img (steps a) ∙ ap (after img) (f .same img p) in
       let first : storesOf sheet img (steps a) ≡ xs = f .same img p in
-      let second : storesOf sheet (exec sheet img (steps a)) (steps b) ≡ ys = ap (λ x. storesOf sheet x (steps b)) left ∙ g .same (after img xs) (f .final img p) in
+      let left : exec sheet img (steps a) ≡ after img xs = exec-all sheet img (steps a) ∙ ap (after img) first in
+      let second : storesOf sheet (exec sheet img (steps a)) (steps b) ≡ ys = rw left (g .same (after img xs) (f .final img p)) in
       ap (storesOf sheet img) (steps-append a b) ∙ storesOf-append sheet img (steps a) (steps b) ∙ (λ i. first i ++ second i);
   final = λ img p. rw after-append (g .final (after img xs) (f .final img p));
 }

@@ -60,7 +60,8 @@ pub bodies-octets : (rs : List Row) → ((i : ℕ) → i < length rs → Octets 
 unfolding bodies
 bodies-octets [] h = no-octets
 bodies-octets (r ∷ rs) h =
-    octets-append (padded (r .body)) (bodies rs) (λ i. omega (arith, padded-byte (r .body) i, h 0 (omega arith) i)) (bodies-octets rs (λ i l. h (suc i) (omega arith)))
+    octets-append (padded (r .body)) (bodies rs) (λ i. omega (arith, padded-byte (r .body) i, h 0 (omega arith) i))
+    (bodies-octets rs (λ i l. h (suc i) (omega arith)))
 
 -- the bytes of entries
 entry-octets : (e : Entry) → Fits e → Octets (entryBytes e)

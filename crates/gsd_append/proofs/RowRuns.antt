@@ -28,7 +28,8 @@ use Rattle.gsd_stores.proofs.View.{withNames, is-long, Stage}
 use Rattle.gsd_stores.proofs.NewNames.{one-name}
 use Rattle.gsd_stores.proofs.NewEntries.{index-entry}
 use Rattle.gsd_stores.proofs.Sheet.{nameAt, bodyAt, Exact, rows-count, body-length, body-text, start-next}
-use Rattle.gsd_stores.proofs.Rows.{padded-length, padded-byte, bodies-even, bodyOffset, offset-first, offset-next, offset-even, offset-inside, offset-last, bodies-text}
+use Rattle.gsd_stores.proofs.Rows.{padded-length, padded-byte, bodies-even, bodies-text}
+use Rattle.gsd_stores.proofs.Rows.{bodyOffset, offset-first, offset-next, offset-even, offset-inside, offset-last}
 use Rattle.gsd_append.specs.declared.run.Run.{Run}
 use Rattle.gsd_append.specs.declared.plan.Plan.{Plan}
 use Rattle.gsd_append.specs.Exec.{over, steps, storesOf}
@@ -37,7 +38,7 @@ use Rattle.gsd_append.specs.Matches.{BodyMatch, EntryMatch}
 use Rattle.gsd_append.proofs.Words.{over-below, over-inside, over-above}
 use Rattle.gsd_append.proofs.Octets.{text-octets, octets-append, flat-octets, bodies-octets, index-octets}
 use Rattle.gsd_append.proofs.RunWords.{number-stores, body-stores, name-stores}
-use Rattle.gsd_append.proofs.Makes.{Makes, AnyImage, _⨾_, makes-none}
+use Rattle.gsd_append.proofs.Makes.{Makes, AnyImage, Always, _⨾_, makes-none}
 use Rattle.gsd_append.proofs.Blocks.{text-cut}
 
 -- Step 2
@@ -54,7 +55,7 @@ module _ (sheet : List ℕ) (exact : Exact sheet) (o : Octets sheet) (p : Define
   abbrev count : ℕ → ℕ
   count i = (length (getD rs i noRow .body) + 7) / 8
 
-  row-stored : (i : ℕ) → i < length rs → Makes sheet AnyImage AnyImage (bodyRun c i ∷ []) (words (p .body) (p .start) (up (p .start + bodyOffset rs i) (count i)))
+  row-stored : (i : ℕ) → i < length rs → Always sheet (bodyRun c i ∷ []) (words (p .body) (p .start) (up (p .start + bodyOffset rs i) (count i)))
   unfolding bodyRun
   row-stored i l = record {
     same = λ img u.
@@ -95,7 +96,7 @@ module _ (sheet : List ℕ) (exact : Exact sheet) (o : Octets sheet) (p : Define
           ∙ ap (λ t. getD t (to + k - p .start) 0) (sym whole)
 
   -- the data of all rows from the i-th on
-  rows-stored : (n i : ℕ) → i + n ≡ length rs → Makes sheet AnyImage AnyImage (tab (bodyRun c) i n)
+  rows-stored : (n i : ℕ) → i + n ≡ length rs → Always sheet (tab (bodyRun c) i n)
       (words (p .body) (p .start) (up (p .start + bodyOffset rs i) ((length (bodies rs) - bodyOffset rs i) / 8)))
   unfolding tab words up
   rows-stored zero i e =
@@ -114,7 +115,7 @@ module _ (sheet : List ℕ) (exact : Exact sheet) (o : Octets sheet) (p : Define
       ∙ words-append (p .body) (p .start) (up at (count i)) (up (p .start + bodyOffset rs (suc i)) more)) in
       rw joined at (row-stored i l ⨾ rows-stored n (suc i) (omega arith))
 
-  pub data-stored : c .rows ≡ length rs → Makes sheet AnyImage AnyImage (tab (bodyRun c) 0 (c .rows)) (storeData p)
+  pub data-stored : c .rows ≡ length rs → Always sheet (tab (bodyRun c) 0 (c .rows)) (storeData p)
   unfolding storeData
   data-stored e =
       let start : p .start + bodyOffset rs 0 ≡ p .start = omega (arith, offset-first rs) in
@@ -205,13 +206,13 @@ names-stored {x₀} {d} {t} sheet o c (b ∷ bs) u j names low off even good fit
     first : Makes sheet (Stage x₀ u d t) (Stage x₀ (withNames u more) d t) (nameRun c j ∷ []) (storeName (u .layout .namelist) (flat (u .names)) b)
     first =
         rw (here .place)
-        (name-stored {x₀ = x₀} {u = u} {d = d} {t = t} sheet o (getD (c .«name_from») j 0) (getD (c .«name_until») j 0) b (here .written) names low off even (good .0)
-        (omega (arith, flat-size b bs)))
+        (name-stored {x₀ = x₀} {u = u} {d = d} {t = t} sheet o (getD (c .«name_from») j 0) (getD (c .«name_until») j 0) b (here .written)
+        names low off even (good .0) (omega (arith, flat-size b bs)))
 
 -- Step 6
 
 -- one word of a text, in a run of its own
-word-stored : (sheet t : List ℕ) (base to v : ℕ) → Octets t → v ≡ le 8 t (to - base) → Makes sheet AnyImage AnyImage (number to 1 v ∷ []) (words t base (to ∷ []))
+word-stored : (sheet t : List ℕ) (base to v : ℕ) → Octets t → v ≡ le 8 t (to - base) → Always sheet (number to 1 v ∷ []) (words t base (to ∷ []))
 unfolding words up
 word-stored sheet t base to v o h = record {
   same = λ img u. number-stores sheet t base o to 1 v img (λ k l. h ∙ ap (λ a. le 8 t (a - base)) (let e : to ≡ to + 8 * k = omega arith in e));
@@ -219,7 +220,8 @@ word-stored sheet t base to v o h = record {
 }
 
 -- the fourth word of an entry: M, id, type and flags
-last-word : (t : List ℕ) (a : ℕ) → le 8 t (a + 24) ≡ le 4 t (a + 24) + 4294967296 * le 2 t (a + 28) + 281474976710656 * (getD t (a + 30) 0 + 256 * getD t (a + 31) 0)
+last-word : (t : List ℕ) (a : ℕ) →
+    le 8 t (a + 24) ≡ le 4 t (a + 24) + 4294967296 * le 2 t (a + 28) + 281474976710656 * (getD t (a + 30) 0 + 256 * getD t (a + 31) 0)
 last-word t a =
     let x : le 4 t (a + 24 + 4) ≡ le 4 t (a + 28) = ap (le 4 t) (omega arith) in
     let y : le 2 t (a + 28 + 2) ≡ le 2 t (a + 30) = ap (le 2 t) (omega arith) in
@@ -263,21 +265,22 @@ module _ (sheet : List ℕ) (es : List Entry) (c : Plan) (long : length es ≡ c
       rw (d, e)
 
   word-of : (n i : ℕ) → n < c .rows → i < 4 →
-      Makes sheet AnyImage AnyImage (entryRun c (4 * (c .rows - suc n) + i) ∷ []) (words text (c .slot) ((c .slot + 32 * n + ofFour 0 8 24 16 i) ∷ []))
+      Always sheet (entryRun c (4 * (c .rows - suc n) + i) ∷ []) (words text (c .slot) ((c .slot + 32 * n + ofFour 0 8 24 16 i) ∷ []))
   word-of n i l k =
       let s : c .rows - 1 - (c .rows - suc n) ≡ n = omega arith in
       let place : 32 * n + ofFour 0 8 24 16 i ≡ c .slot + 32 * n + ofFour 0 8 24 16 i - c .slot = omega arith in
       rw (entry-run (c .rows - suc n) i k, s)
-      (word-stored sheet text (c .slot) (c .slot + 32 * n + ofFour 0 8 24 16 i) _ (index-octets es fits) (entry-word n i (omega arith) k ∙ ap (le 8 text) place))
+      (word-stored sheet text (c .slot) (c .slot + 32 * n + ofFour 0 8 24 16 i) _ (index-octets es fits)
+      (entry-word n i (omega arith) k ∙ ap (le 8 text) place))
 
   -- from the last slot to the first
-  slots-stored : (n : ℕ) → n ≤ c .rows → Makes sheet AnyImage AnyImage (tab (entryRun c) (4 * (c .rows - n)) (4 * n)) (words text (c .slot) (slotsDown (c .slot) n))
+  slots-stored : (n : ℕ) → n ≤ c .rows → Always sheet (tab (entryRun c) (4 * (c .rows - n)) (4 * n)) (words text (c .slot) (slotsDown (c .slot) n))
   unfolding tab words slotsDown ofFour
   slots-stored zero h = makes-none
   slots-stored (suc n) h = record {
     same = λ img u.
         ap (λ rs. storesOf sheet img (steps rs)) runs
-        ∙ (word-of n 0 h (omega arith) ⨾ word-of n 1 h (omega arith) ⨾ word-of n 2 h (omega arith) ⨾ word-of n 3 h (omega arith) ⨾ slots-stored n (omega arith)) .same img u
+        ∙ (word 0 (omega arith) ⨾ word 1 (omega arith) ⨾ word 2 (omega arith) ⨾ word 3 (omega arith) ⨾ slots-stored n (omega arith)) .same img u
         ∙ ap (λ a. words text (c .slot) (a ∷ (slot + 8) ∷ (slot + 24) ∷ (slot + 16) ∷ slotsDown (c .slot) n)) (let e : slot + 0 ≡ slot = omega arith in e);
     final = λ img u. tt;
   }
@@ -291,6 +294,9 @@ module _ (sheet : List ℕ) (es : List Entry) (c : Plan) (long : length es ≡ c
       f : ℕ → Run
       f = entryRun c
 
+      word : (i : ℕ) → i < 4 → Always sheet (f (q + i) ∷ []) (words text (c .slot) ((slot + ofFour 0 8 24 16 i) ∷ []))
+      word i k = word-of n i h k
+
       runs : tab f q (4 * suc n) ≡ f (q + 0) ∷ f (q + 1) ∷ f (q + 2) ∷ f (q + 3) ∷ tab f (4 * (c .rows - n)) (4 * n)
       runs =
           let e : 4 * suc n ≡ suc (suc (suc (suc (4 * n)))) = omega arith in
@@ -301,7 +307,7 @@ module _ (sheet : List ℕ) (es : List Entry) (c : Plan) (long : length es ≡ c
           let e4 : suc (suc (suc (suc q))) ≡ 4 * (c .rows - n) = omega arith in
           ap (tab f q) e ∙ (λ i. f (e0 i) ∷ f (e1 i) ∷ f (e2 i) ∷ f (e3 i) ∷ tab f (e4 i) (4 * n))
 
-  pub entries-stored : Makes sheet AnyImage AnyImage (tab (entryRun c) 0 (4 * c .rows)) (storeEntries (c .slot) es)
+  pub entries-stored : Always sheet (tab (entryRun c) 0 (4 * c .rows)) (storeEntries (c .slot) es)
   unfolding storeEntries
   entries-stored =
       let first : 4 * (c .rows - c .rows) ≡ 0 = omega arith in

@@ -16,7 +16,8 @@ use Rattle.gsd_append.specs.declared.run.Run.{Run}
 use Rattle.gsd_append.specs.Exec.{placeOf, over, wordOf, applied, stepsFrom, steps, storesOf}
 use Rattle.gsd_append.specs.Runs.{number, body, name}
 use Rattle.gsd_append.specs.Matches.{copied}
-use Rattle.gsd_append.proofs.Words.{cut-before, cut-behind, place-name, place-other, source-name, source-other, text-image, text-sheet, text-name, word-number, word-read}
+use Rattle.gsd_append.proofs.Words.{cut-before, cut-behind, place-name, place-other, source-name, source-other}
+use Rattle.gsd_append.proofs.Words.{text-image, text-sheet, text-name, word-number, word-read}
 
 -- A number's eight bytes are those that it was read from
 
@@ -162,7 +163,8 @@ module _ (sheet : List ℕ) (t : List ℕ) (base : ℕ) (o : Octets t) where
 
   -- base lies at or before the name's first word
   pub name-stores : (at from until : ℕ) (img : List ℕ) → base ≤ at / 8 * 8 →
-      ((p : ℕ) → at / 8 * 8 ≤ p → p < at / 8 * 8 + 8 * ((at + (until - from) + 7) / 8 - at / 8) → getD (over img sheet at from until) p 0 ≡ getD t (p - base) 0) →
+      ((p : ℕ) → at / 8 * 8 ≤ p → p < at / 8 * 8 + 8 * ((at + (until - from) + 7) / 8 - at / 8) →
+      getD (over img sheet at from until) p 0 ≡ getD t (p - base) 0) →
       storesOf sheet img (steps (name at from until ∷ [])) ≡ words t base (down (at / 8 * 8) ((at + (until - from) + 7) / 8 - at / 8))
   name-stores at from until img b h =
       run-stores sheet r t base o own img (λ k l. reads img k ∙ le-same 8 _ (placeOf r k) t (placeOf r k - base) (λ j m.
