@@ -51,7 +51,8 @@ returns : tie.Need-returns Inv-loop μ-loop
 returns c =
     let head = c .before .before .before .before in
     let s = head .before .before .args .sheet .now in
-    refused-found s (endTest s) 24 _ (late-end s (head .loop .i + 1) (omega arith) (omega (arith, name-next s (head .loop .i)))) (c .refused .ensures)
+    let late : endTest s ≡ 25 = late-end s (head .loop .i + 1) (omega arith) (omega (arith, name-next s (head .loop .i))) in
+    refused-found s (endTest s) _ (λ z. omega arith) (c .refused .ensures ∙ sym late)
 
 -- src/sheet.rt:143:9
 mul-names : tie.Need-mul-names Inv-loop μ-loop
@@ -107,7 +108,8 @@ refused-requires-2 c κs = search needs
 returns-2 : tie.Need-returns-2 Inv-loop μ-loop
 returns-2 c =
     let s = c .before .before .before .before .before .args .sheet .now in
-    refused-found s (endTest s) 24 _ (other-end s (λ e. c .before .if2 .taken (omega (arith, ended (c .before .before))))) (c .refused2 .ensures)
+    let other : endTest s ≡ 25 = other-end s (λ e. c .before .if2 .taken (omega (arith, ended (c .before .before)))) in
+    refused-found s (endTest s) _ (λ z. omega arith) (c .refused2 .ensures ∙ sym other)
 
 -- src/sheet.rt:151:5
 mul-names-2 : tie.Need-mul-names-2 Inv-loop μ-loop
