@@ -1,35 +1,27 @@
+-- `gsd_append::sheet::names_number` meets its contract.
 use mathlib.Core.Path.{sym, _∙_}
 use borrow.Author.Needs.{needs}
 use Rattle.gsd_format.proofs.Refusals.{decides, goes-on, met, passed}
 use Rattle.gsd_append.specs.SheetRows.{namesTest}
 use Rattle.gsd_append.proofs.sheet.names_number.Statement.{statement}
 use Rattle.gsd_append.proofs.sheet.names_number.Tie as tie
-use Rattle.gsd_append.proofs.sheet.names_number.Reads as reads
-use Rattle.gsd_append.proofs.sheet.names_number.Lts as lts
-use Rattle.gsd_append.proofs.sheet.twin_named.Reads as twin-named-reads
-use Rattle.gsd_append.proofs.sheet.zero_named.Reads as zero-named-reads
 
--- src/sheet.rt:255:8
 zero-named-requires : tie.Need-zero-named-requires
 zero-named-requires c κs = search needs
 
--- src/sheet.rt:256:9
 returns : tie.Need-returns
 unfolding namesTest
 returns c = sym (decides _ _ _ (sym (c .before .zero-named .ensures) ∙ c .if1 .taken))
 
--- src/sheet.rt:258:8
 twin-named-requires : tie.Need-twin-named-requires
 twin-named-requires c κs = search needs
 
--- src/sheet.rt:259:9
 returns-2 : tie.Need-returns-2
 unfolding namesTest
 returns-2 c =
     sym (goes-on _ _ _ (sym (c .before .before .before .zero-named .ensures) ∙ c .before .before .if1 .left)
     ∙ met _ _ (sym (c .before .twin-named .ensures) ∙ c .if2 .taken))
 
--- src/sheet.rt:251:1
 returns-3 : tie.Need-returns-3
 unfolding namesTest
 returns-3 c =

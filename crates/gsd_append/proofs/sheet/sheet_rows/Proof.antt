@@ -1,28 +1,19 @@
+-- `gsd_append::sheet::sheet_rows` meets its contract.
 use mathlib.Core.Path.{_≡_, sym, _∙_}
 use native.Mathlib.Omega.{arith}
 use borrow.Author.Needs.{needs}
 use Rattle.gsd_stores.specs.Sheet.{sheetTest}
-use Rattle.gsd_append.specs.SheetRows.{tableTest, endTest, namesTest, Located, Found}
+use Rattle.gsd_append.specs.SheetRows.{tableTest, namesTest}
 use Rattle.gsd_append.proofs.SheetRows.{refused-found, found-as, Tabled, tabled, number-table, number-end, number-names}
 use Rattle.gsd_append.proofs.sheet.sheet_rows.Statement.{statement}
 use Rattle.gsd_append.proofs.sheet.sheet_rows.Tie as tie
-use Rattle.gsd_append.proofs.sheet.sheet_rows.Reads as reads
-use Rattle.gsd_append.proofs.sheet.sheet_rows.Lts as lts
-use Rattle.gsd_append.proofs.sheet.names_number.Reads as names-number-reads
-use Rattle.gsd_append.proofs.sheet.place_rows.Reads as place-rows-reads
-use Rattle.gsd_append.proofs.sheet.refused.Reads as refused-reads
-use Rattle.gsd_append.proofs.sheet.table_number.Reads as table-number-reads
-use Rattle.gsd_bytes.proofs.u32_at.Reads as u32-at-reads
 
--- src/sheet.rt:267:9
 table-number-requires : tie.Need-table-number-requires
 table-number-requires c κs = search needs
 
--- src/sheet.rt:269:9
 refused-requires : tie.Need-refused-requires
 refused-requires c κs = search needs
 
--- src/sheet.rt:269:9
 returns : tie.Need-returns
 returns c =
     let s = c .before .before .before .before .args .sheet .now in
@@ -30,24 +21,20 @@ returns c =
     refused-found s (sheetTest s) _ (λ z. c .before .if1 .taken (c .before .before .table-number .ensures ∙ sym e ∙ z))
     (c .refused .ensures ∙ c .before .before .table-number .ensures ∙ sym e)
 
--- src/sheet.rt:271:34
 u32-at-requires : tie.Need-u32-at-requires
 u32-at-requires c κs = tabled (c .before .before .before .args .sheet .now) (sym (c .before .table-number .ensures) ∙ c .if1 .left) .long
 
--- src/sheet.rt:271:16
 place-rows-requires : tie.Need-place-rows-requires
 place-rows-requires c κs =
     let t : Tabled (c .before .before .before .before .args .sheet .now) = tabled _ (sym (c .before .before .table-number .ensures) ∙ c .before .if1 .left) in
     (c .u32-at .ensures .0, omega arith, t .whole)
 
--- src/sheet.rt:273:9
 returns-2 : tie.Need-returns-2
 returns-2 c =
     let s = c .before .before .before .before .before .before .args .sheet .now in
     let table : tableTest s ≡ 0 = sym (c .before .before .before .before .table-number .ensures) ∙ c .before .before .before .if1 .left in
     found-as (sym (number-end s table (λ z. c .if2 .taken (c .before .place-rows .ensures .number ∙ z)))) (c .before .place-rows .ensures)
 
--- src/sheet.rt:275:9
 names-number-requires : tie.Need-names-number-requires
 names-number-requires c κs =
     let found = c .before .before .before .before .place-rows .ensures in
@@ -60,18 +47,15 @@ decided c =
     number-names (c .before .before .before .before .before .before .before .before .before .before .args .sheet .now) (sym (c .before .before .before .before .before .before .before .before .table-number .ensures) ∙ c .before .before .before .before .before .before .before .if1 .left)
     (sym (c .before .before .before .before .before .place-rows .ensures .number) ∙ c .before .before .before .before .if2 .left)
 
--- src/sheet.rt:277:9
 refused-requires-2 : tie.Need-refused-requires-2
 refused-requires-2 c κs = search needs
 
--- src/sheet.rt:277:9
 returns-3 : tie.Need-returns-3
 returns-3 c =
     let s = c .before .before .before .before .before .before .before .before .before .before .before .before .args .sheet .now in
     let e : c .before .before .names-number .result ≡ sheetTest s = c .before .before .names-number .ensures ∙ sym (decided (c .before .before)) in
     refused-found s (sheetTest s) _ (λ z. c .before .if3 .taken (e ∙ z)) (c .refused2 .ensures ∙ e)
 
--- src/sheet.rt:264:1
 returns-4 : tie.Need-returns-4
 returns-4 c =
     let found = c .before .before .before .before .before .before .place-rows .ensures in
