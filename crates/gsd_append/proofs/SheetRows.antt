@@ -1,11 +1,10 @@
 -- Laws of the sheet's tests as the code makes them: row by row, and pair by pair.
-use Prim.Native.Nat.{ℕ, zero, suc, _+_, _*_, _-_, _/_, _≤_, _<_}
+use Prim.Native.Nat.{ℕ, suc, _+_, _*_, _-_, _/_, _≤_, _<_}
 use mathlib.Core.Path.{_≡_, refl, sym, _∙_, ap}
 use mathlib.Core.Bool.{true, false, not, _||_}
-use mathlib.Core.List.{List, [], _∷_}
+use mathlib.Core.List.{List, []}
 use native.Mathlib.Nat.{mul-assoc, mul-le-mul, div-lt-iff-lt-mul}
 use native.Mathlib.Numerals.{add-one}
-use native.Mathlib.Decide.{decLt}
 use native.Mathlib.Omega.{arith}
 use lib.ListN.{length, getD, set, drop, drop-of-length-le, length-map, List·getD-map}
 use lib.Seq.{drop-cons, getD-set-same, getD-set-other}
@@ -17,13 +16,13 @@ use Rattle.gsd_format.specs.Types.{sizeOf}
 use Rattle.gsd_format.specs.Names.{indexOf}
 use Rattle.gsd_format.specs.Opening.{twins}
 use Rattle.gsd_format.specs.Refusals.{_⇒_, _▹_}
-use Rattle.gsd_format.proofs.Refusals.{differ-no}
+use Rattle.gsd_format.proofs.Refusals.{both, first-of, stays, ▹-assoc, unmet, neither, not-less, differ-no, same-test}
 use Rattle.gsd_format.proofs.Ids.{index-at, index-least, index-is, places-distinct, distinct-twins, twin-twins}
-use Rattle.gsd_stores.specs.Sheet.{rowKind, nameSize, bodySize, badRow, badTable, bodiesEnd, rowCount, tableEnd, rowsOf, anyZero}
+use Rattle.gsd_stores.specs.Sheet.{rowKind, nameSize, bodySize, badRow, badTable, bodiesEnd, rowCount, tableEnd, rowsOf, anyZero, mostRows, sheetTest}
 use Rattle.gsd_stores.specs.Demand3.{noRow}
 use Rattle.gsd_stores.proofs.Sheet.{start-first, start-next, start-rises, bodies-end, rowAt, nameAt, Exact, rows-count, row-at, name-inside, name-length, name-zero}
 use Rattle.gsd_append.specs.declared.sheet.SheetRows.{SheetRows}
-use Rattle.gsd_append.specs.SheetRows.{rowEnd, tableTest, endTest, sheetNames, nameOf, repeats, Filled, Located, Found}
+use Rattle.gsd_append.specs.SheetRows.{rowEnd, tableTest, endTest, namesTest, sheetNames, nameOf, repeats, Filled, Located, Found}
 
 -- 24: a row's tests in their order
 module _ (s : List ℕ) (t : ℕ) where
@@ -73,13 +72,7 @@ module _ (s : List ℕ) where
 
 -- 25: a quotient tells whether a product is greater, and no product is made that could wrap
 pub quotient-tells : (room n each : ℕ) → 0 < each → ltb (room / each) n ≡ ltb room (n * each)
-quotient-tells room n each p = go (decLt room (n * each))
-  where
-    go : Dec (room < n * each) → ltb (room / each) n ≡ ltb room (n * each)
-    go (yes l) = lt-ltb _ _ (div-lt-iff-lt-mul p .1 l) ∙ sym (lt-ltb _ _ l)
-    go (no l) =
-        let f : room / each < n → ⊥ = λ h. l (div-lt-iff-lt-mul p .0 h) in
-        le-ltb (room / each) n (omega arith) ∙ sym (le-ltb room (n * each) (omega arith))
+quotient-tells room n each p = same-test _ _ _ _ (div-lt-iff-lt-mul p .0) (div-lt-iff-lt-mul p .1)
 
 pub product-fits : (n each : ℕ) → n < 268435456 → each < 34359738368 → n * each < 18446744073709551616
 product-fits n each l m = let h : n * each ≤ 268435456 * 34359738368 = mul-le-mul {n₂ = 268435456} {m₂ = 34359738368} (omega arith) (omega arith) in omega arith
@@ -128,8 +121,11 @@ filled-more {f} {l} {i} {v} h b e =
     record { at = below-more (λ k. getD (set l i v) k 0 ≡ f k) i (λ k m. getD-set-other l i k v 0 (λ q. omega arith) ∙ h .at k m) (getD-set-same l i v 0 b ∙ e) }
 
 -- a refusal has no rows to locate
-pub refused-found : (s : List ℕ) (k n : ℕ) (r : SheetRows) → k ≡ suc n → r .number ≡ suc n → Found s k r
-refused-found s k n r p e = record { number = e ∙ sym p; count = λ z. absurd (omega arith); rows = λ z. absurd (omega arith) }
+pub refused-found : (s : List ℕ) (k : ℕ) (r : SheetRows) → (k ≡ 0 → ⊥) → r .number ≡ k → Found s k r
+refused-found s k r f e = record { number = e; count = λ z. absurd (f z); rows = λ z. absurd (f z) }
+
+pub found-as : {s : List ℕ} {k n : ℕ} {r : SheetRows} → k ≡ n → Found s k r → Found s n r
+found-as e h = record { number = h .number ∙ e; count = λ z. h .count (e ∙ z); rows = λ z. h .rows (e ∙ z) }
 
 -- Names
 
@@ -181,3 +177,34 @@ twins-yes ns i l h =
 pub twins-no : (ns : List (List ℕ)) → ((i : ℕ) → i < length ns → repeats ns i ≡ false) → twins ns ≡ false
 twins-no ns f = distinct-twins ns (places-distinct ns (λ i j m l e.
     omega (arith, index-least (getD ns j []) ns i (omega arith) e, ltb-false (indexOf (getD ns j []) ns) j (f j l))))
+
+-- The whole test
+
+-- what the table's test tells where it refuses nothing
+pub record Tabled (s : List ℕ) : Type 0 where
+  pub long : 4 ≤ length s
+  pub few : rowCount s ≤ mostRows
+  pub whole : tableEnd s ≤ length s
+
+pub tabled : (s : List ℕ) → tableTest s ≡ 0 → Tabled s
+unfolding tableTest
+tabled s h =
+    let from22 = both _ _ h in
+    let from23 = both _ _ (from22 .1) in
+    let count : (((ltb (length s) 4 || eqb (rowCount s) 0) ≡ false) × (ltb mostRows (rowCount s) ≡ false)) = neither _ _ (unmet _ _ (from22 .0)) in
+    record { long = ltb-false _ _ (neither _ _ (count .0) .0); few = ltb-false _ _ (count .1); whole = not-less _ _ _ (from23 .0) }
+
+-- the first part that refuses decides
+module _ (s : List ℕ) where
+  parts : sheetTest s ≡ tableTest s ▹ endTest s ▹ namesTest s
+  unfolding sheetTest tableTest endTest namesTest
+  parts = simp ▹-assoc
+
+  pub number-table : (tableTest s ≡ 0 → ⊥) → sheetTest s ≡ tableTest s
+  number-table f = parts ∙ stays _ _ f
+
+  pub number-end : tableTest s ≡ 0 → (endTest s ≡ 0 → ⊥) → sheetTest s ≡ endTest s
+  number-end e f = parts ∙ first-of _ _ e ∙ stays _ _ f
+
+  pub number-names : tableTest s ≡ 0 → endTest s ≡ 0 → sheetTest s ≡ namesTest s
+  number-names e f = parts ∙ first-of _ _ e ∙ first-of _ _ f

@@ -1,5 +1,11 @@
 // The append sheet: its tests, numbers 22 to 27, and where the name and the data of each row lie in it.
-use gsd_bytes::{has_zero, same_part, size_of, u16_at, u32_at, u64_at, wide};
+use gsd_bytes::has_zero;
+use gsd_bytes::same_part;
+use gsd_bytes::size_of;
+use gsd_bytes::u16_at;
+use gsd_bytes::u32_at;
+use gsd_bytes::u64_at;
+use gsd_bytes::wide;
 ghost use mathlib.Core.Path.{_≡_};
 ghost use Prim.Native.Nat.{_+_, _*_, _≤_, _<_, min};
 ghost use lib.ListN.{length};
@@ -184,7 +190,12 @@ fn place_rows(sheet: &[u8], count: usize) -> SheetRows
 }
 
 // 26: is there a zero byte in one of the names?
-fn zero_named<'a>(sheet: &[u8], count: usize, names: &'a [usize; 65], bodies: &'a [usize; 64]) -> bool
+fn zero_named<'a>(
+    sheet: &[u8],
+    count: usize,
+    names: &'a [usize; 65],
+    bodies: &'a [usize; 64],
+) -> bool
     requires { ⌜ Located (now sheet) (now names) (now bodies) × (count ≡ rowCount (now sheet)) ⌝ }
     ensures { λ r. ⌜ r ≡ anyZero (sheetNames (now (sheet .entry))) ⌝ }
 {
@@ -234,7 +245,12 @@ fn repeated<'a>(sheet: &[u8], names: &'a [usize; 65], bodies: &'a [usize; 64], i
 }
 
 // 27: have two rows the same name?
-fn twin_named<'a>(sheet: &[u8], count: usize, names: &'a [usize; 65], bodies: &'a [usize; 64]) -> bool
+fn twin_named<'a>(
+    sheet: &[u8],
+    count: usize,
+    names: &'a [usize; 65],
+    bodies: &'a [usize; 64],
+) -> bool
     requires { ⌜ Located (now sheet) (now names) (now bodies) × (count ≡ rowCount (now sheet)) ⌝ }
     ensures { λ r. ⌜ r ≡ twins (sheetNames (now (sheet .entry))) ⌝ }
 {
@@ -248,7 +264,12 @@ fn twin_named<'a>(sheet: &[u8], count: usize, names: &'a [usize; 65], bodies: &'
     false
 }
 
-fn names_number<'a>(sheet: &[u8], count: usize, names: &'a [usize; 65], bodies: &'a [usize; 64]) -> u64
+fn names_number<'a>(
+    sheet: &[u8],
+    count: usize,
+    names: &'a [usize; 65],
+    bodies: &'a [usize; 64],
+) -> u64
     requires { ⌜ Located (now sheet) (now names) (now bodies) × (count ≡ rowCount (now sheet)) ⌝ }
     ensures { λ r. ⌜ r ≡ namesTest (now (sheet .entry)) ⌝ }
 {

@@ -1,57 +1,42 @@
+-- `gsd_append::sheet::bad_row` meets its contract.
 use mathlib.Core.Path.{sym}
 use borrow.Author.Needs.{needs}
 use Rattle.gsd_stores.proofs.Sheet.{rowAt}
 use Rattle.gsd_append.proofs.SheetRows.{bad-kind, bad-name, bad-spare}
 use Rattle.gsd_append.proofs.sheet.bad_row.Statement.{statement}
 use Rattle.gsd_append.proofs.sheet.bad_row.Tie as tie
-use Rattle.gsd_append.proofs.sheet.bad_row.Reads as reads
-use Rattle.gsd_append.proofs.sheet.bad_row.Lts as lts
-use Rattle.gsd_append.proofs.sheet.name_size.Reads as name-size-reads
-use Rattle.gsd_append.proofs.sheet.row_kind.Reads as row-kind-reads
-use Rattle.gsd_bytes.proofs.size_of.Reads as size-of-reads
-use Rattle.gsd_bytes.proofs.u16_at.Reads as u16-at-reads
 
--- src/sheet.rt:45:16
 row-kind-requires : tie.Need-row-kind-requires
 row-kind-requires c κs = search needs
 
--- src/sheet.rt:45:8
 size-of-requires : tie.Need-size-of-requires
 size-of-requires c κs = search needs
 
--- src/sheet.rt:46:9
 returns : tie.Need-returns
 returns c =
     let x = c .before .before .before .before .args in
     sym (bad-kind (x .sheet .now) (rowAt (x .i)) (cc))
 
--- src/sheet.rt:48:8
 name-size-requires : tie.Need-name-size-requires
 name-size-requires c κs = search needs
 
--- src/sheet.rt:49:9
 returns-2 : tie.Need-returns-2
 returns-2 c =
     let x = c .before .before .before .before .before .before .args in
     sym (bad-name (x .sheet .now) (rowAt (x .i)) (λ e. c .before .before .if1 .left (cc)) (cc))
 
--- src/sheet.rt:51:23
 mul-u16-at : tie.Need-mul-u16-at
 mul-u16-at c = search needs
 
--- src/sheet.rt:51:19
 add-u16-at : tie.Need-add-u16-at
 add-u16-at c = search needs
 
--- src/sheet.rt:51:19
 add-u16-at-2 : tie.Need-add-u16-at-2
 add-u16-at-2 c = search needs
 
--- src/sheet.rt:51:5
 u16-at-requires : tie.Need-u16-at-requires
 u16-at-requires c κs = search needs
 
--- src/sheet.rt:41:1
 returns-3 : tie.Need-returns-3
 returns-3 c =
     let x = c .before .before .before .before .before .before .before .args in

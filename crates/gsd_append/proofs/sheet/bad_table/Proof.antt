@@ -1,3 +1,4 @@
+-- `gsd_append::sheet::bad_table` meets its contract.
 use Prim.Native.Nat.{_-_, _≤_}
 use mathlib.Core.Path.{_≡_, sym, _∙_}
 use mathlib.Core.Bool.{true, false}
@@ -9,9 +10,6 @@ use Rattle.gsd_stores.proofs.Sheet.{rowAt}
 use Rattle.gsd_append.proofs.SheetRows.{bad-next, bad-none}
 use Rattle.gsd_append.proofs.sheet.bad_table.Statement.{statement}
 use Rattle.gsd_append.proofs.sheet.bad_table.Tie as tie
-use Rattle.gsd_append.proofs.sheet.bad_table.Reads as reads
-use Rattle.gsd_append.proofs.sheet.bad_table.Lts as lts
-use Rattle.gsd_append.proofs.sheet.bad_row.Reads as bad-row-reads
 
 abbrev Inv-loop : tie.InvT-loop
 Inv-loop sheet count i₀ i = (i ≤ count) × (badTable sheet (rowAt i) (count - i) ≡ badTable sheet 4 count)
@@ -19,15 +17,12 @@ Inv-loop sheet count i₀ i = (i ≤ count) × (badTable sheet (rowAt i) (count 
 abbrev μ-loop : tie.MeasureT-loop
 μ-loop sheet count i₀ i = count - i
 
--- src/sheet.rt:59:5
 loop-holds : tie.Need-loop-holds Inv-loop μ-loop
 loop-holds c = (search needs, rw sub-zero)
 
--- src/sheet.rt:60:12
 bad-row-requires : tie.Need-bad-row-requires Inv-loop μ-loop
 bad-row-requires c κs = search needs
 
--- src/sheet.rt:61:13
 returns : tie.Need-returns Inv-loop μ-loop
 returns c =
     let head = c .before .before .before in
@@ -35,15 +30,12 @@ returns c =
     let bad : badRow (x .sheet .now) (rowAt (head .loop .i)) ≡ true = cc in
     rw (← head .loop .inv .1, bad-next (x .sheet .now) (x .count) (head .loop .i) (omega arith), bad)
 
--- src/sheet.rt:63:9
 add-i : tie.Need-add-i Inv-loop μ-loop
 add-i c = search needs
 
--- src/sheet.rt:59:5
 loop-less : tie.Need-loop-less Inv-loop μ-loop
 loop-less c = search needs
 
--- src/sheet.rt:59:5
 loop-again : tie.Need-loop-again Inv-loop μ-loop
 loop-again c =
     let head = c .before .before .before in
@@ -51,7 +43,6 @@ loop-again c =
     let good : badRow (x .sheet .now) (rowAt (head .loop .i)) ≡ false = cc in
     (search needs, rw (← head .loop .inv .1, bad-next (x .sheet .now) (x .count) (head .loop .i) (omega arith), good))
 
--- src/sheet.rt:54:1
 returns-2 : tie.Need-returns-2 Inv-loop μ-loop
 returns-2 c =
     let x = c .before .before .before .args in

@@ -1,3 +1,4 @@
+-- `gsd_append::sheet::exceeds` meets its contract.
 use mathlib.Core.Path.{sym}
 use native.Mathlib.Nat.{mul-zero}
 use native.Mathlib.Omega.{arith}
@@ -6,26 +7,19 @@ use borrow.Author.Tests.{le-ltb}
 use borrow.Author.Needs.{needs}
 use Rattle.gsd_append.proofs.sheet.exceeds.Statement.{statement}
 use Rattle.gsd_append.proofs.sheet.exceeds.Tie as tie
-use Rattle.gsd_append.proofs.sheet.exceeds.Reads as reads
-use Rattle.gsd_append.proofs.sheet.exceeds.Lts as lts
 
--- src/sheet.rt:74:23
 mul-result : tie.Need-mul-result
 mul-result c = record { fits = product-fits _ _ (c .if1 .taken) (c .before .pre) }
 
--- src/sheet.rt:74:9
 returns : tie.Need-returns
 returns c = search needs
 
--- src/sheet.rt:77:9
 returns-2 : tie.Need-returns-2
 returns-2 c = rw (c .if2 .taken, mul-zero) (sym (le-ltb (c .before .before .args .room) 0 (omega arith)))
 
--- src/sheet.rt:79:5
 div-result : tie.Need-div-result
 div-result c = search needs
 
--- src/sheet.rt:69:1
 returns-3 : tie.Need-returns-3
 returns-3 c = let x = c .before .before .args in quotient-tells (x .room) (x .n) (x .each) (omega arith)
 

@@ -1,3 +1,4 @@
+-- `gsd_append::sheet::place_rows` meets its contract.
 use Prim.Native.Nat.{_+_}
 use mathlib.Core.Path.{sym, _∙_, ap}
 use native.Mathlib.Omega.{arith}
@@ -11,11 +12,6 @@ use Rattle.gsd_append.specs.SheetRows.{endTest, Filled}
 use Rattle.gsd_append.proofs.SheetRows.{name-first, exact-end, other-end, name-next, late-end, filled-none, filled-to, filled-more, refused-found}
 use Rattle.gsd_append.proofs.sheet.place_rows.Statement.{statement}
 use Rattle.gsd_append.proofs.sheet.place_rows.Tie as tie
-use Rattle.gsd_append.proofs.sheet.place_rows.Reads as reads
-use Rattle.gsd_append.proofs.sheet.place_rows.Lts as lts
-use Rattle.gsd_append.proofs.sheet.name_size.Reads as name-size-reads
-use Rattle.gsd_append.proofs.sheet.refused.Reads as refused-reads
-use Rattle.gsd_append.proofs.sheet.row_end.Reads as row-end-reads
 
 abbrev Inv-loop : tie.InvT-loop
 Inv-loop sheet count names₀ bodies₀ at₀ i₀ names bodies at i =
@@ -24,100 +20,88 @@ Inv-loop sheet count names₀ bodies₀ at₀ i₀ names bodies at i =
 abbrev μ-loop : tie.MeasureT-loop
 μ-loop sheet count names₀ bodies₀ at₀ i₀ names bodies at i = count - i
 
--- src/sheet.rt:136:22
 mul-at : tie.Need-mul-at Inv-loop μ-loop
 mul-at c = search needs
 
--- src/sheet.rt:136:18
 add-at : tie.Need-add-at Inv-loop μ-loop
 add-at c = search needs
 
--- src/sheet.rt:138:5
 loop-holds : tie.Need-loop-holds Inv-loop μ-loop
 loop-holds c =
     let s = c .before .args .sheet .now in
     (search needs, omega (arith, name-first s), search needs, filled-none, filled-none, search needs, search needs)
 
--- src/sheet.rt:139:13
 row-end-requires : tie.Need-row-end-requires Inv-loop μ-loop
 row-end-requires c κs = search needs
 
--- src/sheet.rt:141:13
 refused-requires : tie.Need-refused-requires Inv-loop μ-loop
 refused-requires c κs = search needs
 
--- src/sheet.rt:141:13
 returns : tie.Need-returns Inv-loop μ-loop
 returns c =
     let head = c .before .before .before .before in
     let s = head .before .before .args .sheet .now in
-    refused-found s (endTest s) 24 _ (late-end s (head .loop .i + 1) (omega arith) (omega (arith, name-next s (head .loop .i)))) (c .refused .ensures)
+    let late : endTest s ≡ 25 = late-end s (head .loop .i + 1) (omega arith) (omega (arith, name-next s (head .loop .i))) in
+    refused-found s (endTest s) _ (λ z. omega arith) (c .refused .ensures ∙ sym late)
 
--- src/sheet.rt:143:9
 mul-names : tie.Need-mul-names Inv-loop μ-loop
 mul-names c = search needs
 
--- src/sheet.rt:143:9
 array-write-names : tie.Need-array-write-names Inv-loop μ-loop
 array-write-names c = search needs
 
--- src/sheet.rt:144:26
 name-size-requires : tie.Need-name-size-requires Inv-loop μ-loop
 name-size-requires c κs = search needs
 
--- src/sheet.rt:144:21
 add-bodies : tie.Need-add-bodies Inv-loop μ-loop
 add-bodies c = search needs
 
--- src/sheet.rt:144:9
 mul-bodies : tie.Need-mul-bodies Inv-loop μ-loop
 mul-bodies c = search needs
 
--- src/sheet.rt:144:9
 array-write-bodies : tie.Need-array-write-bodies Inv-loop μ-loop
 array-write-bodies c = search needs
 
--- src/sheet.rt:146:9
 add-i : tie.Need-add-i Inv-loop μ-loop
 add-i c = search needs
 
--- src/sheet.rt:138:5
 loop-less : tie.Need-loop-less Inv-loop μ-loop
 loop-less c = search needs
 
--- src/sheet.rt:138:5
 loop-again : tie.Need-loop-again Inv-loop μ-loop
 loop-again c =
     let head = c .before .before .before .before in
     let s = head .before .before .args .sheet .now in
-    let i = head .loop .i in
-    (search needs, omega (arith, name-next s i), search needs, filled-more (head .loop .inv .3) (omega arith) (head .loop .inv .1),
-    filled-more (head .loop .inv .4) (omega arith) (omega arith), search needs, search needs)
+    let i = head .loop .i in (
+      search needs,
+      omega (arith, name-next s i),
+      search needs,
+      filled-more (head .loop .inv .3) (omega arith) (head .loop .inv .1),
+      filled-more (head .loop .inv .4) (omega arith) (omega arith),
+      search needs,
+      search needs,
+    )
 
 -- behind the last row
 ended : (c : tie.After-loop Inv-loop μ-loop)
     → let s = c .before .before .before .args .sheet .now in c .before .loop .at ≡ nameAt s (rowCount s)
 ended c = let s = c .before .before .before .args .sheet .now in c .before .loop .inv .1 ∙ ap (nameAt s) (omega arith)
 
--- src/sheet.rt:149:9
 refused-requires-2 : tie.Need-refused-requires-2 Inv-loop μ-loop
 refused-requires-2 c κs = search needs
 
--- src/sheet.rt:149:9
 returns-2 : tie.Need-returns-2 Inv-loop μ-loop
 returns-2 c =
     let s = c .before .before .before .before .before .args .sheet .now in
-    refused-found s (endTest s) 24 _ (other-end s (λ e. c .before .if2 .taken (omega (arith, ended (c .before .before))))) (c .refused2 .ensures)
+    let other : endTest s ≡ 25 = other-end s (λ e. c .before .if2 .taken (omega (arith, ended (c .before .before)))) in
+    refused-found s (endTest s) _ (λ z. omega arith) (c .refused2 .ensures ∙ sym other)
 
--- src/sheet.rt:151:5
 mul-names-2 : tie.Need-mul-names-2 Inv-loop μ-loop
 mul-names-2 c = search needs
 
--- src/sheet.rt:151:5
 array-write-names-2 : tie.Need-array-write-names-2 Inv-loop μ-loop
 array-write-names-2 c = search needs
 
--- src/sheet.rt:130:1
 returns-3 : tie.Need-returns-3 Inv-loop μ-loop
 returns-3 c =
     let s = c .before .before .before .before .args .sheet .now in

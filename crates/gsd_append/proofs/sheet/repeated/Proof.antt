@@ -1,3 +1,4 @@
+-- `gsd_append::sheet::repeated` meets its contract.
 use Prim.Native.Nat.{ℕ, _-_, _≤_, _<_}
 use mathlib.Core.Path.{_≡_, sym, _∙_}
 use mathlib.Core.Bool.{true≢false}
@@ -9,9 +10,6 @@ use Rattle.gsd_append.specs.SheetRows.{sheetNames, nameOf}
 use Rattle.gsd_append.proofs.SheetRows.{names-count, repeats-yes, repeats-no}
 use Rattle.gsd_append.proofs.sheet.repeated.Statement.{statement}
 use Rattle.gsd_append.proofs.sheet.repeated.Tie as tie
-use Rattle.gsd_append.proofs.sheet.repeated.Reads as reads
-use Rattle.gsd_append.proofs.sheet.repeated.Lts as lts
-use Rattle.gsd_append.proofs.sheet.same_name.Reads as same-name-reads
 
 abbrev Inv-loop : tie.InvT-loop
 Inv-loop sheet names bodies i j₀ j = (j ≤ i) × ((k : ℕ) → k < j → nameOf sheet k ≡ nameOf sheet i → ⊥)
@@ -19,15 +17,12 @@ Inv-loop sheet names bodies i j₀ j = (j ≤ i) × ((k : ℕ) → k < j → nam
 abbrev μ-loop : tie.MeasureT-loop
 μ-loop sheet names bodies i j₀ j = i - j
 
--- src/sheet.rt:228:5
 loop-holds : tie.Need-loop-holds Inv-loop μ-loop
 loop-holds c = (search needs, λ k l. absurd (omega arith))
 
--- src/sheet.rt:229:12
 same-name-requires : tie.Need-same-name-requires Inv-loop μ-loop
 same-name-requires c κs = search needs
 
--- src/sheet.rt:230:13
 returns : tie.Need-returns Inv-loop μ-loop
 returns c =
     let head = c .before .before .before in
@@ -36,24 +31,22 @@ returns c =
     sym (repeats-yes (sheetNames s) (x .i) (head .loop .j) (omega arith) (omega (arith, names-count s))
     (same-eq (nameOf s (head .loop .j)) (nameOf s (x .i)) (sym (c .before .same-name .ensures) ∙ c .if1 .taken)))
 
--- src/sheet.rt:232:9
 add-j : tie.Need-add-j Inv-loop μ-loop
 add-j c = search needs
 
--- src/sheet.rt:228:5
 loop-less : tie.Need-loop-less Inv-loop μ-loop
 loop-less c = search needs
 
--- src/sheet.rt:228:5
 loop-again : tie.Need-loop-again Inv-loop μ-loop
 loop-again c =
     let head = c .before .before .before in
     let x = head .before .before .args in
-    let s = x .sheet .now in
-    (search needs, below-more (λ k. nameOf s k ≡ nameOf s (x .i) → ⊥) (head .loop .j) (head .loop .inv .1) (λ e.
-    true≢false (sym (eq-same (nameOf s (head .loop .j)) (nameOf s (x .i)) e) ∙ sym (c .before .same-name .ensures) ∙ c .if1 .left)))
+    let s = x .sheet .now in (
+      search needs,
+      below-more (λ k. nameOf s k ≡ nameOf s (x .i) → ⊥) (head .loop .j) (head .loop .inv .1) (λ e.
+          true≢false (sym (eq-same (nameOf s (head .loop .j)) (nameOf s (x .i)) e) ∙ sym (c .before .same-name .ensures) ∙ c .if1 .left)),
+    )
 
--- src/sheet.rt:223:1
 returns-2 : tie.Need-returns-2 Inv-loop μ-loop
 returns-2 c =
     let x = c .before .before .before .args in

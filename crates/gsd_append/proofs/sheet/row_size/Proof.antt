@@ -1,24 +1,17 @@
+-- `gsd_append::sheet::row_size` meets its contract.
 use Prim.Native.Nat.{_*_, _<_}
 use native.Mathlib.Omega.{arith}
 use borrow.Author.Needs.{needs}
 use Rattle.gsd_append.proofs.SheetRows.{size-bound}
 use Rattle.gsd_append.proofs.sheet.row_size.Statement.{statement}
 use Rattle.gsd_append.proofs.sheet.row_size.Tie as tie
-use Rattle.gsd_append.proofs.sheet.row_size.Reads as reads
-use Rattle.gsd_append.proofs.sheet.row_size.Lts as lts
-use Rattle.gsd_append.proofs.sheet.row_kind.Reads as row-kind-reads
-use Rattle.gsd_append.proofs.sheet.row_m.Reads as row-m-reads
-use Rattle.gsd_bytes.proofs.size_of.Reads as size-of-reads
 
--- src/sheet.rt:75:5
 row-m-requires : tie.Need-row-m-requires
 row-m-requires c κs = search needs
 
--- src/sheet.rt:75:31
 row-kind-requires : tie.Need-row-kind-requires
 row-kind-requires c κs = search needs
 
--- src/sheet.rt:75:23
 size-of-requires : tie.Need-size-of-requires
 size-of-requires c κs = search needs
 
@@ -28,7 +21,6 @@ bound c = size-bound _ _ (c .before .before .row-m .ensures .1) (c .size-of .ens
 mul-result : tie.Need-mul-result
 mul-result c = record { fits = omega (arith, bound c) }
 
--- src/sheet.rt:71:1
 returns : tie.Need-returns
 returns c = (cc, bound c)
 

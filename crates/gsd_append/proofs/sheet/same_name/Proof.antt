@@ -1,3 +1,4 @@
+-- `gsd_append::sheet::same_name` meets its contract.
 use mathlib.Core.Path.{sym, _∙_, ap}
 use native.Mathlib.Omega.{arith}
 use lib.ListN.{length}
@@ -7,51 +8,37 @@ use Rattle.gsd_append.specs.SheetRows.{nameOf}
 use Rattle.gsd_append.proofs.SheetRows.{located-room, located-name, located-length}
 use Rattle.gsd_append.proofs.sheet.same_name.Statement.{statement}
 use Rattle.gsd_append.proofs.sheet.same_name.Tie as tie
-use Rattle.gsd_append.proofs.sheet.same_name.Reads as reads
-use Rattle.gsd_append.proofs.sheet.same_name.Lts as lts
-use Rattle.gsd_bytes.proofs.same_part.Reads as same-part-reads
 
--- src/sheet.rt:213:13
 mul-a : tie.Need-mul-a
 mul-a c = search needs
 
--- src/sheet.rt:213:13
 element-copy-out-a : tie.Need-element-copy-out-a
 element-copy-out-a c = search needs
 
--- src/sheet.rt:214:13
 mul-b : tie.Need-mul-b
 mul-b c = search needs
 
--- src/sheet.rt:214:13
 element-copy-out-b : tie.Need-element-copy-out-b
 element-copy-out-b c = search needs
 
--- src/sheet.rt:215:13
 mul-n : tie.Need-mul-n
 mul-n c = search needs
 
--- src/sheet.rt:215:13
 element-copy-out-n : tie.Need-element-copy-out-n
 element-copy-out-n c = search needs
 
--- src/sheet.rt:215:13
 sub-n : tie.Need-sub-n
 sub-n c = let x = c .before .before .before .before in located-room (x .pre .0) (x .args .i) (omega arith) .0
 
--- src/sheet.rt:216:8
 mul-if1 : tie.Need-mul-if1
 mul-if1 c = search needs
 
--- src/sheet.rt:216:8
 element-copy-out-if1 : tie.Need-element-copy-out-if1
 element-copy-out-if1 c = search needs
 
--- src/sheet.rt:216:8
 sub-if1 : tie.Need-sub-if1
 sub-if1 c = let x = c .before .before .before .before .before in located-room (x .pre .0) (x .args .j) (omega arith) .0
 
--- src/sheet.rt:217:9
 returns : tie.Need-returns
 returns c =
     let x = c .before .before .before .before .before .before in
@@ -59,13 +46,11 @@ returns c =
     sym (ne-same (nameOf s (x .args .i)) (nameOf s (x .args .j)) (λ e. c .if1 .taken
     (sym (located-length (x .pre .0) (x .args .j) (omega arith)) ∙ sym (ap length e) ∙ located-length (x .pre .0) (x .args .i) (omega arith))))
 
--- src/sheet.rt:219:5
 same-part-requires : tie.Need-same-part-requires
 same-part-requires c κs =
     let x = c .before .before .before .before .before .before in
     omega (arith, located-room (x .pre .0) (x .args .i) (omega arith), located-room (x .pre .0) (x .args .j) (omega arith))
 
--- src/sheet.rt:203:1
 returns-2 : tie.Need-returns-2
 returns-2 c =
     let x = c .before .before .before .before .before .before .before in

@@ -1,3 +1,4 @@
+-- `gsd_append::sheet::table_number` meets its contract.
 use mathlib.Core.Path.{_≡_, sym, _∙_}
 use mathlib.Core.Bool.{true, false}
 use native.Mathlib.Omega.{arith}
@@ -7,44 +8,31 @@ use Rattle.gsd_stores.specs.Sheet.{badTable, rowCount}
 use Rattle.gsd_append.proofs.SheetRows.{table-short, table-none, table-many, table-cut, table-whole}
 use Rattle.gsd_append.proofs.sheet.table_number.Statement.{statement}
 use Rattle.gsd_append.proofs.sheet.table_number.Tie as tie
-use Rattle.gsd_append.proofs.sheet.table_number.Reads as reads
-use Rattle.gsd_append.proofs.sheet.table_number.Lts as lts
-use Rattle.gsd_append.proofs.sheet.bad_table.Reads as bad-table-reads
-use Rattle.gsd_bytes.proofs.u32_at.Reads as u32-at-reads
 
--- src/sheet.rt:98:9
 returns : tie.Need-returns
 returns c = sym (table-short (c .before .before .args .sheet .now) (c .if1 .taken))
 
--- src/sheet.rt:100:17
 u32-at-requires : tie.Need-u32-at-requires
 u32-at-requires c κs = search needs
 
--- src/sheet.rt:102:9
 returns-2 : tie.Need-returns-2
 returns-2 c = sym (table-none (c .before .before .before .before .args .sheet .now) (omega arith) (omega arith))
 
--- src/sheet.rt:105:9
 returns-3 : tie.Need-returns-3
 returns-3 c = sym (table-many (c .before .before .before .before .before .args .sheet .now) (omega arith) (omega arith))
 
--- src/sheet.rt:107:26
 mul-if4 : tie.Need-mul-if4
 mul-if4 c = search needs
 
--- src/sheet.rt:107:22
 add-if4 : tie.Need-add-if4
 add-if4 c = search needs
 
--- src/sheet.rt:108:9
 returns-4 : tie.Need-returns-4
 returns-4 c = sym (table-cut (c .before .before .before .before .before .before .args .sheet .now) (omega arith) (omega arith) (omega arith) (omega arith))
 
--- src/sheet.rt:110:8
 bad-table-requires : tie.Need-bad-table-requires
 bad-table-requires c κs = search needs
 
--- src/sheet.rt:111:9
 returns-5 : tie.Need-returns-5
 unfolding _⇒_
 returns-5 c =
@@ -52,7 +40,6 @@ returns-5 c =
     let e : badTable s 4 (rowCount s) ≡ true = cc in
     sym (table-whole s (omega arith) (omega arith) (omega arith) (omega arith) ∙ rw (e, _⇒_))
 
--- src/sheet.rt:94:1
 returns-6 : tie.Need-returns-6
 unfolding _⇒_
 returns-6 c =

@@ -1,3 +1,4 @@
+-- `gsd_append::sheet::twin_named` meets its contract.
 use Prim.Native.Nat.{ℕ, _-_, _≤_, _<_}
 use mathlib.Core.Path.{_≡_, sym, _∙_}
 use mathlib.Core.Bool.{false}
@@ -8,9 +9,6 @@ use Rattle.gsd_append.specs.SheetRows.{sheetNames, repeats}
 use Rattle.gsd_append.proofs.SheetRows.{names-count, twins-yes, twins-no}
 use Rattle.gsd_append.proofs.sheet.twin_named.Statement.{statement}
 use Rattle.gsd_append.proofs.sheet.twin_named.Tie as tie
-use Rattle.gsd_append.proofs.sheet.twin_named.Reads as reads
-use Rattle.gsd_append.proofs.sheet.twin_named.Lts as lts
-use Rattle.gsd_append.proofs.sheet.repeated.Reads as repeated-reads
 
 abbrev Inv-loop : tie.InvT-loop
 Inv-loop sheet count names bodies i₀ i = (i ≤ count) × ((k : ℕ) → k < i → repeats (sheetNames sheet) k ≡ false)
@@ -18,37 +16,30 @@ Inv-loop sheet count names bodies i₀ i = (i ≤ count) × ((k : ℕ) → k < i
 abbrev μ-loop : tie.MeasureT-loop
 μ-loop sheet count names bodies i₀ i = count - i
 
--- src/sheet.rt:242:5
 loop-holds : tie.Need-loop-holds Inv-loop μ-loop
 loop-holds c = (search needs, λ k l. absurd (omega arith))
 
--- src/sheet.rt:243:12
 repeated-requires : tie.Need-repeated-requires Inv-loop μ-loop
 repeated-requires c κs = search needs
 
--- src/sheet.rt:244:13
 returns : tie.Need-returns Inv-loop μ-loop
 returns c =
     let head = c .before .before .before in
     let s = head .before .before .args .sheet .now in
     sym (twins-yes (sheetNames s) (head .loop .i) (omega (arith, names-count s)) (sym (c .before .repeated .ensures) ∙ c .if1 .taken))
 
--- src/sheet.rt:246:9
 add-i : tie.Need-add-i Inv-loop μ-loop
 add-i c = search needs
 
--- src/sheet.rt:242:5
 loop-less : tie.Need-loop-less Inv-loop μ-loop
 loop-less c = search needs
 
--- src/sheet.rt:242:5
 loop-again : tie.Need-loop-again Inv-loop μ-loop
 loop-again c =
     let head = c .before .before .before in
     let s = head .before .before .args .sheet .now in
     (search needs, below-more (λ k. repeats (sheetNames s) k ≡ false) (head .loop .i) (head .loop .inv .1) (sym (c .before .repeated .ensures) ∙ c .if1 .left))
 
--- src/sheet.rt:237:1
 returns-2 : tie.Need-returns-2 Inv-loop μ-loop
 returns-2 c =
     let s = c .before .before .before .args .sheet .now in

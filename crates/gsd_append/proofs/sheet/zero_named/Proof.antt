@@ -1,4 +1,5 @@
-use Prim.Native.Nat.{_+_, _-_, _≤_}
+-- `gsd_append::sheet::zero_named` meets its contract.
+use Prim.Native.Nat.{_-_, _≤_}
 use mathlib.Core.Path.{_≡_, refl, sym, _∙_}
 use mathlib.Core.Bool.{true, false}
 use native.Mathlib.Omega.{arith}
@@ -10,9 +11,6 @@ use Rattle.gsd_append.specs.SheetRows.{sheetNames, nameOf}
 use Rattle.gsd_append.proofs.SheetRows.{names-count, located-room, located-zero, zero-next, zero-none}
 use Rattle.gsd_append.proofs.sheet.zero_named.Statement.{statement}
 use Rattle.gsd_append.proofs.sheet.zero_named.Tie as tie
-use Rattle.gsd_append.proofs.sheet.zero_named.Reads as reads
-use Rattle.gsd_append.proofs.sheet.zero_named.Lts as lts
-use Rattle.gsd_bytes.proofs.has_zero.Reads as has-zero-reads
 
 abbrev Inv-loop : tie.InvT-loop
 Inv-loop sheet count names bodies i₀ i = (i ≤ count) × (anyZero (drop i (sheetNames sheet)) ≡ anyZero (sheetNames sheet))
@@ -20,33 +18,26 @@ Inv-loop sheet count names bodies i₀ i = (i ≤ count) × (anyZero (drop i (sh
 abbrev μ-loop : tie.MeasureT-loop
 μ-loop sheet count names bodies i₀ i = count - i
 
--- src/sheet.rt:193:5
 loop-holds : tie.Need-loop-holds Inv-loop μ-loop
 loop-holds c = (search needs, refl)
 
--- src/sheet.rt:194:28
 mul-has-zero : tie.Need-mul-has-zero Inv-loop μ-loop
 mul-has-zero c = search needs
 
--- src/sheet.rt:194:28
 element-copy-out-has-zero : tie.Need-element-copy-out-has-zero Inv-loop μ-loop
 element-copy-out-has-zero c = search needs
 
--- src/sheet.rt:194:38
 mul-has-zero-2 : tie.Need-mul-has-zero-2 Inv-loop μ-loop
 mul-has-zero-2 c = search needs
 
--- src/sheet.rt:194:38
 element-copy-out-has-zero-2 : tie.Need-element-copy-out-has-zero-2 Inv-loop μ-loop
 element-copy-out-has-zero-2 c = search needs
 
--- src/sheet.rt:194:12
 has-zero-requires : tie.Need-has-zero-requires Inv-loop μ-loop
 has-zero-requires c κs =
     let head = c .before .before .before in
     located-room (head .before .before .pre .0) (head .loop .i) (omega arith)
 
--- src/sheet.rt:195:13
 returns : tie.Need-returns Inv-loop μ-loop
 returns c =
     let head = c .before .before .before .before .before in
@@ -56,15 +47,12 @@ returns c =
     located-zero (head .before .before .pre .0) i (omega arith) ∙ sym (c .before .has-zero .ensures) ∙ c .if1 .taken in
     rw (← head .loop .inv .1, zero-next (sheetNames s) i (omega (arith, names-count s)), zero)
 
--- src/sheet.rt:197:9
 add-i : tie.Need-add-i Inv-loop μ-loop
 add-i c = search needs
 
--- src/sheet.rt:193:5
 loop-less : tie.Need-loop-less Inv-loop μ-loop
 loop-less c = search needs
 
--- src/sheet.rt:193:5
 loop-again : tie.Need-loop-again Inv-loop μ-loop
 loop-again c =
     let head = c .before .before .before .before .before in
@@ -74,7 +62,6 @@ loop-again c =
     located-zero (head .before .before .pre .0) i (omega arith) ∙ sym (c .before .has-zero .ensures) ∙ c .if1 .left in
     (search needs, rw (← head .loop .inv .1, zero-next (sheetNames s) i (omega (arith, names-count s)), full))
 
--- src/sheet.rt:188:1
 returns-2 : tie.Need-returns-2 Inv-loop μ-loop
 returns-2 c =
     let s = c .before .before .before .args .sheet .now in
