@@ -2,4 +2,5 @@
 pub mod Words
 pub mod Steps
 pub mod Runs
+pub mod Count
 pub mod Turns
