@@ -2,6 +2,7 @@
 pub mod Words
 pub mod Steps
 pub mod Runs
+pub mod Count
 pub mod Turns
 -- a plan that matches an append makes its stores
 pub mod Octets

@@ -7,7 +7,7 @@ use native.Mathlib.Numerals.{add-one}
 use native.Mathlib.Omega.{arith}
 use lib.ListN.{length, getD, take, drop, length-take, length-drop, drop-of-length-le, List·getD-eq-default}
 use lib.Seq.{drop-cons, drop-drop, take-add}
-use Rattle.gsd_stores.specs.Stores.{after}
+use Rattle.gsd_stores.specs.Stores.{Store, after}
 use Rattle.gsd_append.specs.declared.run.Run.{Run}
 use Rattle.gsd_append.specs.declared.plan.Plan.{Plan}
 use Rattle.gsd_append.specs.declared.turn.Turned.{Turned}
@@ -112,3 +112,34 @@ module _ (sheet img₀ : List ℕ) (p : Plan) (r₀ w₀ limit : ℕ) (img : Lis
         made = omega (arith, h .free, h .walked .within, ap length none-left ∙ length-drop (limit - left) (ahead p r₀ w₀));
         cursor = record { run = h .cursor .run; word = omega arith };
       }
+
+-- A turn from the beginning, by the stores of all steps
+
+pub first-cursor : (p : Plan) → Cursor p 0 0
+first-cursor p = record { run = omega arith; word = omega arith }
+
+module _ (sheet img : List ℕ) (p : Plan) (limit : ℕ) (t : Turned) (img′ : List ℕ) (h : TurnSays sheet img p 0 0 limit t img′) where
+  abbrev all-stores : List Store
+  all-stores = storesOf sheet img (steps (runsOf p))
+
+  all-ahead : ahead p 0 0 ≡ steps (runsOf p)
+  all-ahead = sym (steps-rest (runsOf p))
+
+  pub turn-made : t .made ≡ min limit (length all-stores)
+  turn-made = rw (storesOf-length sheet img (steps (runsOf p)), ← all-ahead) (h .made)
+
+  pub turn-image : img′ ≡ after img (take (t .made) all-stores)
+  turn-image = rw (← exec-after sheet img (steps (runsOf p)) (t .made), ← all-ahead) (h .walked .image)
+
+-- turns in a row are one with the sum of their limits
+pub turns-join : (sheet img : List ℕ) (p : Plan) (r w l₁ l₂ : ℕ) (t u : Turned) (img₁ img₂ : List ℕ)
+    → TurnSays sheet img p r w l₁ t img₁ → TurnSays sheet img₁ p (t .run) (t .word) l₂ u img₂
+    → TurnSays sheet img p r w (l₁ + l₂) (record { run = u .run; word = u .word; made = t .made + u .made }) img₂
+turns-join sheet img p r w l₁ l₂ t u img₁ img₂ h g =
+    let some : u .made ≤ length (ahead p (t .run) (t .word)) = omega (arith, g .walked .within) in
+    let there : length (ahead p (t .run) (t .word)) ≡ length (ahead p r w) - t .made = ap length (h .walked .left) ∙ length-drop (t .made) (ahead p r w) in
+    record {
+      walked = rw (g .walked .image, g .walked .left) (walked-more sheet img (ahead p r w) (t .made) img₁ (ahead p (t .run) (t .word)) (u .made) (h .walked) some);
+      made = omega (arith, h .made, g .made, there, h .walked .within);
+      cursor = g .cursor;
+    }

@@ -73,3 +73,36 @@ pub fn turn(
         made: limit - left,
     }
 }
+
+// The number of all stores of a plan. Each of an entry's four words is a run of its own.
+pub fn whole(plan: Plan) -> u64
+    requires { ⌜ Ready half half plan ⌝ }
+    ensures { λ r. ⌜ r ≡ length (steps (runsOf plan)) ⌝ }
+{
+    let count = 11 + plan.fresh + plan.rows;
+    let heads = laid(plan.heads);
+    let mut sum = 4 * plan.rows as u64;
+    let mut r = 0;
+    while r < count {
+        let x = run_at(
+            plan.rows,
+            plan.fresh,
+            &heads,
+            &plan.body_to,
+            &plan.body_from,
+            &plan.body_until,
+            &plan.name_at,
+            &plan.name_from,
+            &plan.name_until,
+            plan.slot,
+            plan.frame,
+            &plan.n,
+            &plan.meta,
+            &plan.location,
+            r,
+        );
+        sum += x.words as u64;
+        r += 1;
+    }
+    sum
+}
