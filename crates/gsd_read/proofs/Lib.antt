@@ -5,4 +5,4 @@ pub mod NameLists
 pub mod Floats
 pub mod Signed
 pub mod Surveys
-pub mod Found
+pub mod Lookups

@@ -2,3 +2,4 @@
 pub mod Index
 pub mod NameLists
 pub mod Surveys
+pub mod Lookups

@@ -1,10 +1,9 @@
 -- What the survey of an image answers: the opening's number, and of an image that opens all that a lookup or an append needs.
-use Prim.Native.Nat.{ℕ, _+_, _*_, _≤_}
+use Prim.Native.Nat.{ℕ, _*_}
 use mathlib.Core.Path.{_≡_}
 use mathlib.Core.List.{List}
 use lib.ListN.{length}
 use Rattle.gsd_format.specs.declared.Layout.{Layout}
-use Rattle.gsd_format.specs.declared.Place.{Place}
 use Rattle.gsd_format.specs.Header.{layoutOf}
 use Rattle.gsd_format.specs.Entries.{entriesOf, framesOf, chunksEnd}
 use Rattle.gsd_format.specs.Opening.{headerTest, blocksTest, verdict}
@@ -24,8 +23,3 @@ pub record Surveyed (img : List ℕ) (r : Survey) : Type 0 where
   pub entries : r .number ≡ 0 → r .entries ≡ length (entriesOf img)
   pub frames : r .number ≡ 0 → r .frames ≡ framesOf (entriesOf img)
   pub end : r .number ≡ 0 → r .end ≡ chunksEnd (entriesOf img)
-
--- a place that is no refusal lies in the image
-unfoldable pub Inside : List ℕ → Place → Type 0
-Inside img (Place.At p) = p .start + p .size ≤ length img
-Inside img (Place.Refused n) = Unit

@@ -8,8 +8,17 @@ ghost use lib.Ieee.{binary32, binary64, ofBits, nanBits};
 ghost use lib.ListN.{length};
 ghost use Rattle.gsd_format.specs.Bytes.{le};
 ghost use Rattle.gsd_format.specs.Types.{sizeOf};
-ghost use Rattle.gsd_format.specs.Elements.{elementOf};
+ghost use Rattle.gsd_format.specs.Elements.{elementOf, elementIn, element};
+ghost use Rattle.gsd_read.specs.Lookups.{Held};
+use crate::found::lookup;
+use gsd_bytes::size_of;
+use gsd_bytes::u16_at;
+use gsd_bytes::u32_at;
+use gsd_bytes::u64_at;
+use gsd_bytes::wide;
 use gsd_format::Element;
+use gsd_format::Entry;
+use gsd_format::Listed;
 
 // The number of a two's complement pattern, half being the pattern of the least number.
 pub fn signed_of(bits: u64, half: u64) -> i64
@@ -92,4 +101,42 @@ pub fn element_of(kind: u8, bits: u64) -> Element
     }
     let value = double(bits);
     Element::Double { value, bits }
+}
+
+// As many bytes as the type has.
+fn bits_at(image: &[u8], at: usize, kind: u8) -> u64
+    requires { ⌜ (0 < sizeOf kind) × (at + sizeOf kind ≤ length (now image)) ⌝ }
+    ensures { λ r. ⌜ (r ≡ le (sizeOf kind) (now (image .entry)) at) × (r < 256 ^ sizeOf kind) ⌝ }
+{
+    let size = size_of(kind);
+    if size == 1 {
+        return wide(image[at]);
+    }
+    if size == 2 {
+        return u16_at(image, at);
+    }
+    if size == 4 {
+        return u32_at(image, at);
+    }
+    u64_at(image, at)
+}
+
+fn element_in(image: &[u8], e: Entry, k: u64) -> Element
+    requires { ⌜ Held (now image) e ⌝ }
+    ensures { λ r. ⌜ r ≡ elementIn (now (image .entry)) e k ⌝ }
+{
+    if e.n * e.m as u64 <= k {
+        return Element::Refused(43);
+    }
+    let at = e.location + k * size_of(e.kind);
+    element_of(e.kind, bits_at(image, at as usize, e.kind))
+}
+
+pub fn element(image: &[u8], frame: u64, name: &[u8], k: u64) -> Element
+    ensures { λ r. ⌜ r ≡ element (now (image .entry)) frame (now (name .entry)) k ⌝ }
+{
+    match lookup(image, frame, name) {
+        Listed::Found(e) => element_in(image, e, k),
+        Listed::Refused(number) => Element::Refused(number),
+    }
 }

@@ -2,10 +2,10 @@ use mathlib.Core.Path.{sym, _∙_, ap}
 use native.Mathlib.Omega.{arith}
 use borrow.Author.Needs.{needs}
 use Rattle.gsd_format.specs.Lookup.{placed}
-use Rattle.gsd_read.proofs.Found.{place-found, place-refused}
+use Rattle.gsd_read.proofs.Lookups.{place-found, place-refused}
 use borrow.Author.Needs.{needs}
-use Rattle.gsd_read.proofs.lookup.chunk_place.Statement.{statement}
-use Rattle.gsd_read.proofs.lookup.chunk_place.Tie as tie
+use Rattle.gsd_read.proofs.found.chunk_place.Statement.{statement}
+use Rattle.gsd_read.proofs.found.chunk_place.Tie as tie
 
 lookup-requires : tie.Need-lookup-requires
 lookup-requires c κs = search needs

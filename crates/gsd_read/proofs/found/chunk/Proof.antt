@@ -1,9 +1,9 @@
 use mathlib.Core.Path.{_∙_, ap}
 use Rattle.gsd_format.specs.Lookup.{bytesAt}
-use Rattle.gsd_read.proofs.Found.{chunk-inside}
+use Rattle.gsd_read.proofs.Lookups.{chunk-inside}
 use borrow.Author.Needs.{needs}
-use Rattle.gsd_read.proofs.lookup.chunk.Statement.{statement}
-use Rattle.gsd_read.proofs.lookup.chunk.Tie as tie
+use Rattle.gsd_read.proofs.found.chunk.Statement.{statement}
+use Rattle.gsd_read.proofs.found.chunk.Tie as tie
 
 chunk-place-requires : tie.Need-chunk-place-requires
 chunk-place-requires c κs = search needs

@@ -1,10 +1,10 @@
 use mathlib.Core.Path.{sym}
 use native.Mathlib.Omega.{arith}
 use borrow.Author.Needs.{needs}
-use Rattle.gsd_read.proofs.Found.{inside-at, bytes-at, bytes-none}
+use Rattle.gsd_read.proofs.Lookups.{inside-at, bytes-at, bytes-none}
 use borrow.Author.Needs.{needs}
-use Rattle.gsd_read.proofs.lookup.part_at.Statement.{statement}
-use Rattle.gsd_read.proofs.lookup.part_at.Tie as tie
+use Rattle.gsd_read.proofs.found.part_at.Statement.{statement}
+use Rattle.gsd_read.proofs.found.part_at.Tie as tie
 
 enum-known-place : tie.Need-enum-known-place
 enum-known-place c = search needs

@@ -19,7 +19,7 @@ ghost use Rattle.gsd_format.specs.Header.{layoutOf};
 ghost use Rattle.gsd_format.specs.Entries.{entriesOf};
 ghost use Rattle.gsd_format.specs.Opening.{verdict, opening};
 ghost use Rattle.gsd_format.specs.Lookup.{nthEntry, nthName, findEntry, lookup, chunkPlace, bytesAt};
-ghost use Rattle.gsd_read.specs.Surveys.{Inside};
+ghost use Rattle.gsd_read.specs.Lookups.{Inside};
 
 pub fn open(image: &[u8]) -> Opening
     ensures { λ r. ⌜ r ≡ opening (now (image .entry)) ⌝ }

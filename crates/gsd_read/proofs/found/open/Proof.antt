@@ -3,8 +3,8 @@ use borrow.Author.Needs.{needs}
 use Rattle.gsd_format.specs.declared.Opening.{Opening}
 use Rattle.gsd_format.proofs.Verdict.{opening-refused}
 use Rattle.gsd_read.proofs.Surveys.{passed-on, opened}
-use Rattle.gsd_read.proofs.lookup.open.Statement.{statement}
-use Rattle.gsd_read.proofs.lookup.open.Tie as tie
+use Rattle.gsd_read.proofs.found.open.Statement.{statement}
+use Rattle.gsd_read.proofs.found.open.Tie as tie
 
 survey-of-requires : tie.Need-survey-of-requires
 survey-of-requires c κs = search needs

@@ -1,10 +1,10 @@
 use borrow.Author.Needs.{needs}
 use mathlib.Core.Path.{_∙_, ap}
 use Rattle.gsd_format.specs.Lookup.{bytesAt}
-use Rattle.gsd_read.specs.Surveys.{Inside}
-use Rattle.gsd_read.proofs.Found.{name-inside}
-use Rattle.gsd_read.proofs.lookup.name_bytes.Statement.{statement}
-use Rattle.gsd_read.proofs.lookup.name_bytes.Tie as tie
+use Rattle.gsd_read.specs.Lookups.{Inside}
+use Rattle.gsd_read.proofs.Lookups.{name-inside}
+use Rattle.gsd_read.proofs.found.name_bytes.Statement.{statement}
+use Rattle.gsd_read.proofs.found.name_bytes.Tie as tie
 
 name-requires : tie.Need-name-requires
 name-requires c κs = search needs

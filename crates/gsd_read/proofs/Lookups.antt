@@ -1,31 +1,35 @@
 -- Laws of what is found: the search for an entry slot by slot, and that names and chunks lie in the image.
-use Prim.Native.Nat.{ℕ, zero, suc, _+_, _*_, _-_, _≤_, _<_}
+use Prim.Native.Nat.{ℕ, zero, suc, _+_, _*_, _-_, _^_, _≤_, _<_}
 use mathlib.Core.Path.{_≡_, refl, sym, _∙_, ap}
 use mathlib.Core.Bool.{true, false, _&&_}
 use mathlib.Core.List.{List, [], _∷_}
+use native.Mathlib.Nat.{mul-le-mul-right, le-mul-of-pos-right}
 use native.Mathlib.Numerals.{add-one}
 use native.Mathlib.Decide.{decLt}
 use native.Mathlib.Omega.{arith}
-use lib.ListN.{length, drop, drop-of-length-le}
+use lib.ListN.{length, getD, drop, drop-of-length-le}
 use lib.Seq.{drop-cons}
 use lib.Dec.{eqb}
 use Rattle.gsd_format.specs.declared.Entry.{Entry}
 use Rattle.gsd_format.specs.declared.Listed.{Listed}
 use Rattle.gsd_format.specs.declared.Part.{Part}
 use Rattle.gsd_format.specs.declared.Place.{Place}
-use Rattle.gsd_format.specs.Bytes.{part}
+use Rattle.gsd_format.specs.declared.Element.{Element}
+use Rattle.gsd_format.specs.Bytes.{le, part}
 use Rattle.gsd_format.specs.Header.{greatestLength, layoutOf}
-use Rattle.gsd_format.specs.Types.{chunkSize}
+use Rattle.gsd_format.specs.Types.{sizeOf, chunkSize}
 use Rattle.gsd_format.specs.Names.{nameParts, namesOf}
 use Rattle.gsd_format.specs.Entries.{entryAt, entriesOf}
 use Rattle.gsd_format.specs.Opening.{verdict}
 use Rattle.gsd_format.specs.Lookup.{none, nowhere, nthName, findEntry, lookup, placed, chunkPlace, bytesAt}
+use Rattle.gsd_format.specs.Elements.{elementOf, elementIn, element}
 use Rattle.gsd_format.proofs.Lists.{each-at}
 use Rattle.gsd_format.proofs.Names.{Lies, parts-lie}
 use Rattle.gsd_format.proofs.Verdict.{Sound, verdict-zero}
 use Rattle.gsd_format.proofs.Lookup.{find-end, find-sound, look-found, opened-lookup, opened-name, opened-no-name, refused-name, found-opens}
+use Rattle.gsd_format.proofs.Elements.{element-at}
 use Rattle.gsd_read.specs.Index.{Capped}
-use Rattle.gsd_read.specs.Surveys.{Inside}
+use Rattle.gsd_read.specs.Lookups.{Inside, Held}
 use Rattle.gsd_read.proofs.Surveys.{layout-length, slot-entry}
 
 -- The search for an entry
@@ -83,24 +87,25 @@ name-inside img n = go (verdict img) refl (decLt n (length (nameParts img)))
 
 -- an entry that is found is sound, and its chunk is in the image
 module _ (img : List ℕ) (frame : ℕ) (name : List ℕ) (e : Entry) (found : lookup img frame name ≡ Listed.Found e) where
-  pub found-sound : Sound (layoutOf img) (length (namesOf img)) e
+  found-sound : Sound (layoutOf img) (length (namesOf img)) e
   found-sound =
       let opens = found-opens img frame name e found in
       let met = look-found (entriesOf img) (namesOf img) frame name e .0 (sym (opened-lookup img opens frame name) ∙ found) in
       let stands = find-sound _ _ (entriesOf img) e (met .2) in
       rw (stands .there) at (verdict-zero img .0 opens .sound (stands .place) (stands .within))
 
-  pub found-within : e .location + chunkSize e ≤ length img
-  found-within = omega (arith, found-sound .within, layout-length img (layoutOf img) refl)
-
-  pub found-short : length img ≤ greatestLength
-  found-short = verdict-zero img .0 (found-opens img frame name e found) .front .high
+  pub found-held : Held img e
+  found-held = record {
+    typed = found-sound .typed;
+    within = omega (arith, found-sound .within, layout-length img (layoutOf img) refl);
+    short = verdict-zero img .0 (found-opens img frame name e found) .front .high;
+  }
 
   -- its place, by its size as code keeps it
   pub place-found : (size : ℕ) → Capped (chunkSize e) size → chunkPlace img frame name ≡ Place.At (record { start = e .location; size = size })
   unfolding chunkPlace placed
   place-found size c =
-      ap placed found ∙ (λ i. Place.At (record { start = e .location; size = sym (c .exact (omega (arith, found-within, found-short))) i }))
+      ap placed found ∙ (λ i. Place.At (record { start = e .location; size = sym (c .exact (omega (arith, found-held))) i }))
 
 pub place-refused : (img : List ℕ) (frame : ℕ) (name : List ℕ) (n : ℕ) → lookup img frame name ≡ Listed.Refused n →
     chunkPlace img frame name ≡ Place.Refused n
@@ -112,5 +117,37 @@ unfolding Inside chunkPlace placed
 chunk-inside img frame name = go (lookup img frame name) refl
   where
     go : (r : Listed) → lookup img frame name ≡ r → Inside img (placed r)
-    go (Listed.Found e) h = found-within img frame name e h
+    go (Listed.Found e) h = found-held img frame name e h .within
     go (Listed.Refused n) h = tt
+
+-- Elements
+
+-- a number of k bytes, where the type has k
+pub bits-are : (img : List ℕ) (at kind k r : ℕ) → sizeOf kind ≡ k → r ≡ le k img at → r < 256 ^ k → (r ≡ le (sizeOf kind) img at) × (r < 256 ^ sizeOf kind)
+bits-are img at kind k r e h b = rw e (h, b)
+
+pub one-byte : (img : List ℕ) (at : ℕ) → getD img at 0 ≡ le 1 img at
+unfolding le
+one-byte img at = omega arith
+
+module _ (img : List ℕ) (e : Entry) (held : Held img e) where
+  pub few-elements : e .n * e .m ≤ greatestLength
+  few-elements = omega (arith, le-mul-of-pos-right (e .n * e .m) (held .typed), held .within, held .short)
+
+  pub element-within : (k size : ℕ) → k < e .n * e .m → size ≡ sizeOf (e .kind) → e .location + k * size + size ≤ length img
+  element-within k size h q = rw q (omega (arith, mul-le-mul-right (sizeOf (e .kind)) h, held .within))
+
+  pub element-here : (k size bits : ℕ) → k < e .n * e .m → size ≡ sizeOf (e .kind) → bits ≡ le (sizeOf (e .kind)) img (e .location + k * size) →
+      elementOf (e .kind) bits ≡ elementIn img e k
+  element-here k size bits h q b =
+      ap (elementOf (e .kind)) (b ∙ ap (λ s. le (sizeOf (e .kind)) img (e .location + k * s)) q) ∙ sym (element-at img e k h)
+
+pub element-found : (img : List ℕ) (frame : ℕ) (name : List ℕ) (k : ℕ) (e : Entry) → lookup img frame name ≡ Listed.Found e →
+    element img frame name k ≡ elementIn img e k
+unfolding element
+element-found img frame name k e h = rw (h, element)
+
+pub element-refused : (img : List ℕ) (frame : ℕ) (name : List ℕ) (k n : ℕ) → lookup img frame name ≡ Listed.Refused n →
+    element img frame name k ≡ Element.Refused n
+unfolding element
+element-refused img frame name k n h = rw (h, element)

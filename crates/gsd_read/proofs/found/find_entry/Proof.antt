@@ -6,9 +6,9 @@ use lib.ListN.{drop}
 use Rattle.gsd_format.specs.Entries.{entriesOf}
 use Rattle.gsd_format.specs.Lookup.{findEntry}
 use Rattle.gsd_read.proofs.Surveys.{slot-within}
-use Rattle.gsd_read.proofs.Found.{found-here, found-on, found-none}
-use Rattle.gsd_read.proofs.lookup.find_entry.Statement.{statement}
-use Rattle.gsd_read.proofs.lookup.find_entry.Tie as tie
+use Rattle.gsd_read.proofs.Lookups.{found-here, found-on, found-none}
+use Rattle.gsd_read.proofs.found.find_entry.Statement.{statement}
+use Rattle.gsd_read.proofs.found.find_entry.Tie as tie
 
 abbrev Inv-loop : tie.InvT-loop
 Inv-loop image index count frame id at₀ i₀ at i = (i ≤ count) × (at ≡ index + 32 * i) × (findEntry frame id (entriesOf image) ≡ findEntry frame id (drop i (entriesOf image)))

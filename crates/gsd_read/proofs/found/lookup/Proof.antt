@@ -4,8 +4,8 @@ use Rattle.gsd_format.specs.declared.Listed.{Listed}
 use Rattle.gsd_format.proofs.Lookup.{refused-lookup}
 use Rattle.gsd_read.proofs.Surveys.{passed-on, opens, spans, index-there, no-frame, not-listed, look-on}
 use borrow.Author.Needs.{needs}
-use Rattle.gsd_read.proofs.lookup.lookup.Statement.{statement}
-use Rattle.gsd_read.proofs.lookup.lookup.Tie as tie
+use Rattle.gsd_read.proofs.found.lookup.Statement.{statement}
+use Rattle.gsd_read.proofs.found.lookup.Tie as tie
 
 survey-of-requires : tie.Need-survey-of-requires
 survey-of-requires c κs = search needs

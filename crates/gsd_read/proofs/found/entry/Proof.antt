@@ -4,8 +4,8 @@ use borrow.Author.Needs.{needs}
 use Rattle.gsd_format.specs.declared.Listed.{Listed}
 use Rattle.gsd_format.proofs.Lookup.{refused-entry}
 use Rattle.gsd_read.proofs.Surveys.{passed-on, entry-within, entry-there, no-entry}
-use Rattle.gsd_read.proofs.lookup.entry.Statement.{statement}
-use Rattle.gsd_read.proofs.lookup.entry.Tie as tie
+use Rattle.gsd_read.proofs.found.entry.Statement.{statement}
+use Rattle.gsd_read.proofs.found.entry.Tie as tie
 
 survey-of-requires : tie.Need-survey-of-requires
 survey-of-requires c κs = search needs

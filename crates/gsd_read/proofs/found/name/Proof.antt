@@ -3,8 +3,8 @@ use borrow.Author.Needs.{needs}
 use Rattle.gsd_format.specs.declared.Place.{Place}
 use Rattle.gsd_format.proofs.Lookup.{refused-name}
 use Rattle.gsd_read.proofs.Surveys.{passed-on, spans, name-there, no-name}
-use Rattle.gsd_read.proofs.lookup.name.Statement.{statement}
-use Rattle.gsd_read.proofs.lookup.name.Tie as tie
+use Rattle.gsd_read.proofs.found.name.Statement.{statement}
+use Rattle.gsd_read.proofs.found.name.Tie as tie
 
 survey-of-requires : tie.Need-survey-of-requires
 survey-of-requires c κs = search needs

@@ -1,0 +1,19 @@
+-- What is found lies in the image.
+use Prim.Native.Nat.{ℕ, _+_, _≤_, _<_}
+use mathlib.Core.List.{List}
+use lib.ListN.{length}
+use Rattle.gsd_format.specs.declared.Entry.{Entry}
+use Rattle.gsd_format.specs.declared.Place.{Place}
+use Rattle.gsd_format.specs.Types.{sizeOf, chunkSize}
+use Rattle.gsd_format.specs.Header.{greatestLength}
+
+-- a place that is no refusal lies in the image
+unfoldable pub Inside : List ℕ → Place → Type 0
+Inside img (Place.At p) = p .start + p .size ≤ length img
+Inside img (Place.Refused n) = Unit
+
+-- an entry of a known type whose chunk lies in the image
+pub record Held (img : List ℕ) (e : Entry) : Type 0 where
+  pub typed : 0 < sizeOf (e .kind)
+  pub within : e .location + chunkSize e ≤ length img
+  pub short : length img ≤ greatestLength
