@@ -12,12 +12,12 @@ use Rattle.gsd_format.specs.declared.Entry.{Entry}
 use Rattle.gsd_format.specs.declared.Layout.{Layout}
 use Rattle.gsd_format.specs.Types.{chunkSize}
 use Rattle.gsd_format.specs.Names.{flat, indexOf}
-use Rattle.gsd_format.specs.Entries.{framesOf}
+use Rattle.gsd_format.specs.Entries.{framesOf, chunksEnd}
 use Rattle.gsd_format.specs.Lookup.{none}
 use Rattle.gsd_format.proofs.Lists.{Each, Any, each-at, at-each, any-at, at-any}
 use Rattle.gsd_format.proofs.Ids.{Has, index-inj}
 use Rattle.gsd_stores.specs.Sheet.{Row}
-use Rattle.gsd_stores.specs.View.{View, indexEnd, namelistEnd, chunksEnd, endOfUse}
+use Rattle.gsd_stores.specs.View.{View, indexEnd, namelistEnd, endOfUse}
 use Rattle.gsd_stores.specs.Plan.{Plan, bodies, newNames, newEntries, sorted, doubled, grown, planOf, dataEnd, namesDone, finalPosition}
 use Rattle.gsd_stores.specs.Steps.{nameBlock, indexBlock}
 use Rattle.gsd_stores.specs.Demand3.{noRow}
