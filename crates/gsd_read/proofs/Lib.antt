@@ -1,0 +1,2 @@
+-- Laws that the proofs of reading share.
+pub mod NameLists

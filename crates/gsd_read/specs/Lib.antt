@@ -1,0 +1,2 @@
+-- What the functions of reading answer on the way to the calls' answers.
+pub mod NameLists
