@@ -1,0 +1,42 @@
+-- Runs that make a list of stores, from every image of a kind, joined one behind the other.
+use Prim.Native.Nat.{ℕ, zero, suc, _+_, _*_, _-_, _/_, _≤_, _<_}
+use mathlib.Core.Path.{_≡_, refl, sym, _∙_, ap}
+use mathlib.Core.List.{List, [], _∷_, _++_}
+use native.Mathlib.Omega.{arith}
+use lib.ListN.{length, take}
+use lib.Seq.{take-length}
+use Rattle.gsd_stores.specs.Stores.{Store, after}
+use Rattle.gsd_stores.proofs.Stores.{after-append}
+use Rattle.gsd_append.specs.declared.run.Run.{Run}
+use Rattle.gsd_append.specs.Exec.{Step, steps, exec, storesOf}
+use Rattle.gsd_append.specs.Runs.{none}
+use Rattle.gsd_append.proofs.Steps.{steps-append, storesOf-append, storesOf-length, exec-after}
+
+pub exec-all : (sheet img : List ℕ) (ss : List Step) → exec sheet img ss ≡ after img (storesOf sheet img ss)
+exec-all sheet img ss =
+    let all : take (length ss) (storesOf sheet img ss) ≡ storesOf sheet img ss = ap (λ n. take n (storesOf sheet img ss)) (sym (storesOf-length sheet img ss)) ∙ take-length (storesOf sheet img ss) in
+    ap (exec sheet img) (sym (take-length ss)) ∙ exec-after sheet img ss (length ss) ∙ ap (after img) all
+
+-- from every image with P the runs make these stores, and then it has Q
+pub record Makes (sheet : List ℕ) (P Q : List ℕ → Type 0) (rs : List Run) (xs : List Store) : Type 0 where
+  pub same : (img : List ℕ) → P img → storesOf sheet img (steps rs) ≡ xs
+  pub final : (img : List ℕ) → P img → Q (after img xs)
+
+abbrev pub AnyImage : List ℕ → Type 0
+AnyImage img = Unit
+
+infixl 20 _⨾_
+pub _⨾_ : {sheet : List ℕ} {P Q R : List ℕ → Type 0} {a b : List Run} {xs ys : List Store} → Makes sheet P Q a xs → Makes sheet Q R b ys → Makes sheet P R (a ++ b) (xs ++ ys)
+_⨾_ {sheet} {a} {b} {xs} {ys} f g = record {
+  same = λ img p.
+      let left : exec sheet img (steps a) ≡ after img xs = exec-all sheet img (steps a) ∙ ap (after img) (f .same img p) in
+      let first : storesOf sheet img (steps a) ≡ xs = f .same img p in
+      let second : storesOf sheet (exec sheet img (steps a)) (steps b) ≡ ys = ap (λ x. storesOf sheet x (steps b)) left ∙ g .same (after img xs) (f .final img p) in
+      ap (storesOf sheet img) (steps-append a b) ∙ storesOf-append sheet img (steps a) (steps b) ∙ (λ i. first i ++ second i);
+  final = λ img p. rw after-append (g .final (after img xs) (f .final img p));
+}
+
+-- no runs, and runs of no words
+pub makes-none : {sheet : List ℕ} {P : List ℕ → Type 0} → Makes sheet P P [] []
+unfolding steps storesOf after
+makes-none = record { same = λ img p. refl; final = λ img p. p }

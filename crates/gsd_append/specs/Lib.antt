@@ -1,0 +1,5 @@
+-- What the append's code does, step by step.
+pub mod Exec
+pub mod Runs
+pub mod Matches
+pub mod Turns

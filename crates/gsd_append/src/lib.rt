@@ -1,0 +1,4 @@
+// The append: its stores made one after the other on the image.
+mod plan;
+mod run;
+mod turn;
