@@ -9,3 +9,4 @@ pub mod RowRuns
 pub mod StoreList
 pub mod Runs
 pub mod Turns
+pub mod Sorting

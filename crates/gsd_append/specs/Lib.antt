@@ -3,3 +3,4 @@ pub mod Exec
 pub mod Runs
 pub mod Matches
 pub mod Turns
+pub mod Order
