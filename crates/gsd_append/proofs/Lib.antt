@@ -10,3 +10,4 @@ pub mod StoreList
 pub mod Runs
 pub mod Turns
 pub mod Sorting
+pub mod EntryOrder
