@@ -1,6 +1,6 @@
 -- The new entries by rising ids: they are those of the rows, in the order of the rows' ids with their rows as numbers.
-use Prim.Native.Nat.{ℕ, zero, suc, _+_, _*_, _/_, _%_, _≤_, _<_}
-use mathlib.Core.Path.{_≡_, sym, _∙_, ap, subst}
+use Prim.Native.Nat.{ℕ, zero, suc, _+_, _/_, _%_, _≤_, _<_}
+use mathlib.Core.Path.{_≡_, refl, sym, _∙_, ap, subst}
 use mathlib.Core.List.{List, [], _∷_, map, List·Permᴰ as Perm}
 use mathlib.Core.List.{List·Permᴰ·nil, List·Permᴰ·cons, List·Permᴰ·swap, List·Permᴰ·trans, Permᴰ·symm, Permᴰ·map}
 use native.Mathlib.Omega.{arith}
@@ -11,7 +11,7 @@ use Rattle.gsd_format.specs.Names.{indexOf}
 use Rattle.gsd_format.specs.Entries.{framesOf}
 use Rattle.gsd_format.specs.Lookup.{none}
 use Rattle.gsd_format.proofs.Lists.{Each, Any, each-at, at-each, at-any}
-use Rattle.gsd_format.proofs.Ids.{Distinct, Has}
+use Rattle.gsd_format.proofs.Ids.{Distinct}
 use Rattle.gsd_stores.specs.Sheet.{Row, rowNames}
 use Rattle.gsd_stores.specs.View.{View}
 use Rattle.gsd_stores.specs.Plan.{Plan, sorted}
@@ -19,7 +19,7 @@ use Rattle.gsd_stores.specs.Demand3.{noRow}
 use Rattle.gsd_stores.proofs.Sorted.{Rising, Differing, sorted-is}
 use Rattle.gsd_stores.proofs.Rows.{new-length, new-at, new-differing, all-has}
 use Rattle.gsd_stores.proofs.Plan.{namesAfter, rowEntries, rowEntry, Planned}
-use Rattle.gsd_append.specs.Order.{Ascending, Sorted, paired}
+use Rattle.gsd_append.specs.Order.{Sorted, paired}
 
 -- What holds of each element, or of each two, holds in any other order
 
@@ -34,11 +34,12 @@ Unlike e x = e .id ≡ x .id → ⊥
 
 perm-differing : {a b : List Entry} → Perm a b → Differing a → Differing b
 perm-differing List·Permᴰ·nil h = tt
-perm-differing (List·Permᴰ·cons {l₁ = l} e d) h = (perm-each (Unlike _) d (subst (λ x. Each (Unlike x) l) e (h .0)), perm-differing d (h .1))
+perm-differing (List·Permᴰ·cons {b = b} {l₁ = l} e d) h = (perm-each (Unlike b) d (subst (λ x. Each (Unlike x) l) e (h .0)), perm-differing d (h .1))
 perm-differing (List·Permᴰ·swap {l = l} e f) h =
-    let unlike = h .0 .0 in
-    ((λ q. unlike (ap (λ x. x .id) e ∙ sym q ∙ ap (λ x. x .id) (sym f)), subst (λ x. Each (Unlike x) l) f (h .1 .0)),
-    (subst (λ x. Each (Unlike x) l) e (h .0 .1), h .1 .1))
+    let unlike = h .0 .0 in (
+      (λ q. unlike (ap (λ x. x .id) e ∙ sym q ∙ ap (λ x. x .id) (sym f)), subst (λ x. Each (Unlike x) l) f (h .1 .0)),
+      (subst (λ x. Each (Unlike x) l) e (h .0 .1), h .1 .1),
+    )
 perm-differing (List·Permᴰ·trans c d) h = perm-differing d (perm-differing c h)
 
 -- each is one of them
@@ -84,5 +85,52 @@ module _ (v : View) (rs : List Row) (p : Plan) (plan : Planned v rs p) (distinct
   entryOf x = rowEntry v rs p (x % 64)
 
   module _ (xs ys : List ℕ) (pairs : (i : ℕ) → i < length rs → getD xs i 0 ≡ paired (idOf i) i) (long : length rs ≤ length xs) (s : Sorted xs (length rs) ys) where
-    first-pairs : Each Pair (take (length rs) xs)
-    first-pairs = ?a
+    abbrev n : ℕ
+    n = length rs
+
+    first-pairs : Each Pair (take n xs)
+    first-pairs = at-each Pair (take n xs) 0 (λ i l.
+        let k : i < n = omega (arith, length-take-le n xs long) in
+        let e : getD (take n xs) i 0 ≡ paired (idOf i) i = getD-take n xs i 0 k ∙ pairs i k in
+        let r : paired (idOf i) i % 64 ≡ i = omega arith in
+        rw e (record { row = omega arith; id = rw r (omega arith) }))
+
+    long-sorted : length (take n ys) ≡ n
+    long-sorted = length-take-le n ys (omega (arith, s .long))
+
+    -- in order they are pairs still
+    pub pair-at : (i : ℕ) → i < n → Pair (getD ys i 0)
+    pair-at i l = rw (sym (getD-take n ys i 0 l)) (each-at Pair (take n ys) 0 (perm-each Pair (Permᴰ·symm (s .same)) first-pairs) i (rw long-sorted l))
+
+    entries-are : map entryOf (take n xs) ≡ rowEntries v rs p
+    entries-are =
+        ext-getD none (map entryOf (take n xs)) (rowEntries v rs p)
+        (length-map (take n xs) entryOf ∙ length-take-le n xs long ∙ sym (new-length rs (p .start) (framesOf (v .entries)) (namesAfter v p))) (λ i l.
+        let k : i < n = omega (arith, length-map (take n xs) entryOf, length-take-le n xs long) in
+        let r : getD (take n xs) i 0 % 64 ≡ i = omega (arith, getD-take n xs i 0 k, pairs i k) in
+        map-at entryOf (take n xs) i 0 none (omega (arith, length-take-le n xs long))
+        ∙ ap (rowEntry v rs p) r ∙ sym (new-at rs (p .start) (framesOf (v .entries)) (namesAfter v p) i k))
+
+    entry-of : (i : ℕ) → i < n → getD (map entryOf (take n ys)) i none ≡ entryOf (getD ys i 0)
+    entry-of i l = map-at entryOf (take n ys) i 0 none (rw long-sorted l) ∙ ap entryOf (getD-take n ys i 0 l)
+
+    -- ids do not fall
+    up : (i j : ℕ) → i < j → j < length (map entryOf (take n ys)) → getD (map entryOf (take n ys)) i none .id ≤ getD (map entryOf (take n ys)) j none .id
+    up i j h l =
+        let k : j < n = omega (arith, length-map (take n ys) entryOf, long-sorted) in
+        omega (
+          arith,
+          s .up i j h k,
+          ap (λ e. e .id) (entry-of i (omega arith)),
+          ap (λ e. e .id) (entry-of j k),
+          pair-at i (omega arith) .id,
+          pair-at j k .id,
+        )
+
+    -- the entry of the i-th slot is that of the row in the i-th pair
+    pub entry-at : (i : ℕ) → i < n → getD (p .entries) i none ≡ entryOf (getD ys i 0)
+    entry-at i l =
+        let differing : Differing (rowEntries v rs p) =
+        new-differing rs (p .start) (framesOf (v .entries)) (namesAfter v p) (λ k m. rw (plan .fresh) (all-has (v .names) rs k m)) distinct in
+        let same : Perm (map entryOf (take n ys)) (rowEntries v rs p) = rw (sym entries-are) (Permᴰ·map entryOf (s .same)) in
+        ap (λ es. getD es i none) (plan .entries ∙ sorted-perm (rowEntries v rs p) (map entryOf (take n ys)) differing same up) ∙ entry-of i l
