@@ -4,3 +4,4 @@ pub mod Runs
 pub mod Matches
 pub mod Turns
 pub mod Order
+pub mod SheetRows
