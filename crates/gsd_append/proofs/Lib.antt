@@ -18,3 +18,6 @@ pub mod RowRuns
 pub mod StoreList
 pub mod GoodRuns
 pub mod Appends
+pub mod Sorting
+pub mod EntryOrder
+-- Laws that the append's proofs cite.

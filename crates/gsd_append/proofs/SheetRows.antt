@@ -20,9 +20,9 @@ use Rattle.gsd_format.proofs.Refusals.{both, first-of, stays, ▹-assoc, unmet,
 use Rattle.gsd_format.proofs.Ids.{index-at, index-least, index-is, places-distinct, distinct-twins, twin-twins}
 use Rattle.gsd_stores.specs.Sheet.{rowKind, nameSize, bodySize, badRow, badTable, bodiesEnd, rowCount, tableEnd, rowsOf, anyZero, mostRows, sheetTest}
 use Rattle.gsd_stores.specs.Demand3.{noRow}
-use Rattle.gsd_stores.proofs.Sheet.{start-first, start-next, start-rises, bodies-end, rowAt, nameAt, Exact, rows-count, row-at, name-inside, name-length, name-zero}
+use Rattle.gsd_stores.proofs.Sheet.{start-first, start-next, start-rises, bodies-end, rowAt, nameAt, bodyAt, Exact, rows-count, row-at, name-inside, body-inside, name-length, name-zero}
 use Rattle.gsd_append.specs.declared.sheet.SheetRows.{SheetRows}
-use Rattle.gsd_append.specs.SheetRows.{rowEnd, tableTest, endTest, namesTest, sheetNames, nameOf, repeats, Filled, Located, Found}
+use Rattle.gsd_append.specs.SheetRows.{tableTest, endTest, namesTest, sheetNames, nameOf, repeats, Filled, Located, Found}
 
 -- 24: a row's tests in their order
 module _ (s : List ℕ) (t : ℕ) where
@@ -101,7 +101,7 @@ other-end s f =
     rw n
 
 -- a name begins where the row before it ends
-pub name-next : (s : List ℕ) (i : ℕ) → nameAt s (i + 1) ≡ rowEnd s (rowAt i) (nameAt s i)
+pub name-next : (s : List ℕ) (i : ℕ) → nameAt s (i + 1) ≡ bodyAt s i + bodySize s (rowAt i)
 name-next s i = rw add-one (start-next s 4 (tableEnd s) i)
 
 -- a row that ends behind the sheet's end
@@ -120,6 +120,13 @@ pub filled-more : {f : ℕ → ℕ} {l : List ℕ} {i v : ℕ} → Filled f l i 
 filled-more {f} {l} {i} {v} h b e =
     record { at = below-more (λ k. getD (set l i v) k 0 ≡ f k) i (λ k m. getD-set-other l i k v 0 (λ q. omega arith) ∙ h .at k m) (getD-set-same l i v 0 b ∙ e) }
 
+-- the rows before the i-th are placed, and the i-th begins at p
+pub record Placed (s : List ℕ) (i p : ℕ) (names bodies : List ℕ) : Type 0 where
+  pub next : p ≡ nameAt s i
+  pub inside : p ≤ length s
+  pub name : Filled (nameAt s) names i
+  pub body : Filled (bodyAt s) bodies i
+
 -- a refusal has no rows to locate
 pub refused-found : (s : List ℕ) (k : ℕ) (r : SheetRows) → (k ≡ 0 → ⊥) → r .number ≡ k → Found s k r
 refused-found s k r f e = record { number = e; count = λ z. absurd (f z); rows = λ z. absurd (f z) }
@@ -127,7 +134,7 @@ refused-found s k r f e = record { number = e; count = λ z. absurd (f z); rows 
 pub found-as : {s : List ℕ} {k n : ℕ} {r : SheetRows} → k ≡ n → Found s k r → Found s n r
 found-as e h = record { number = h .number ∙ e; count = λ z. h .count (e ∙ z); rows = λ z. h .rows (e ∙ z) }
 
--- Names
+-- Rows that are located
 
 pub names-count : (s : List ℕ) → length (sheetNames s) ≡ rowCount s
 names-count s = length-map (rowsOf s) (λ r. r .name) ∙ rows-count s
@@ -136,20 +143,32 @@ name-row : (s : List ℕ) (i : ℕ) → nameOf s i ≡ getD (rowsOf s) i noRow .
 name-row s i = List·getD-map (λ r. r .name) (rowsOf s) i noRow
 
 module _ {s names bodies : List ℕ} (h : Located s names bodies) (i : ℕ) (l : i < rowCount s) where
-  pub located-size : getD bodies i 0 - getD names i 0 ≡ nameSize s (rowAt i)
-  located-size = omega (arith, h .name .at i (omega arith), h .body .at i l)
-
+  -- the name and the data, one behind the other
   pub located-room : (getD names i 0 ≤ getD bodies i 0) × (getD bodies i 0 ≤ length s)
   located-room = omega (arith, h .name .at i (omega arith), h .body .at i l, name-inside s (h .exact) i l)
 
+  pub located-end : (getD bodies i 0 ≤ getD names (i + 1) 0) × (getD names (i + 1) 0 ≤ length s)
+  located-end = omega (arith, h .name .at (i + 1) (omega arith), h .body .at i l, name-next s i, body-inside s (h .exact) i l)
+
+  name-span : getD bodies i 0 - getD names i 0 ≡ nameSize s (rowAt i)
+  name-span = omega (arith, h .name .at i (omega arith), h .body .at i l)
+
+  body-span : getD names (i + 1) 0 - getD bodies i 0 ≡ bodySize s (rowAt i)
+  body-span = omega (arith, h .name .at (i + 1) (omega arith), h .body .at i l, name-next s i)
+
   pub located-name : nameOf s i ≡ part s (getD names i 0) (getD bodies i 0 - getD names i 0)
-  located-name = name-row s i ∙ ap (λ r. r .name) (row-at s i l) ∙ rw (located-size, h .name .at i (omega arith))
+  located-name = name-row s i ∙ ap (λ r. r .name) (row-at s i l) ∙ rw (name-span, h .name .at i (omega arith))
+
+  pub located-body : getD (rowsOf s) i noRow .body ≡ part s (getD bodies i 0) (getD names (i + 1) 0 - getD bodies i 0)
+  located-body = ap (λ r. r .body) (row-at s i l) ∙ rw (body-span, h .body .at i l)
 
   pub located-length : length (nameOf s i) ≡ getD bodies i 0 - getD names i 0
-  located-length = ap length (name-row s i) ∙ name-length s (h .exact) i l ∙ sym located-size
+  located-length = ap length (name-row s i) ∙ name-length s (h .exact) i l ∙ sym name-span
 
   pub located-zero : zeroIn (nameOf s i) 0 (length (nameOf s i)) ≡ zeroIn s (getD names i 0) (getD bodies i 0 - getD names i 0)
-  located-zero = rw name-row (name-zero s (h .exact) i l ∙ rw (located-size, h .name .at i (omega arith)))
+  located-zero = rw name-row (name-zero s (h .exact) i l ∙ rw (name-span, h .name .at i (omega arith)))
+
+-- Names
 
 -- 26: is there a zero in the names from the i-th on?
 pub zero-next : (ns : List (List ℕ)) (i : ℕ) → i < length ns

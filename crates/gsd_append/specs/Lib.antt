@@ -6,3 +6,4 @@ pub mod Turns
 pub mod Sites
 pub mod SheetRows
 pub mod Filling
+pub mod Order

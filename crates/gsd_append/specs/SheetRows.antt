@@ -8,13 +8,9 @@ use lib.Dec.{ltb, eqb}
 use Rattle.gsd_format.specs.Refusals.{_⇒_, _▹_}
 use Rattle.gsd_format.specs.Names.{indexOf}
 use Rattle.gsd_format.specs.Opening.{twins}
-use Rattle.gsd_stores.specs.Sheet.{nameSize, bodySize, badTable, bodiesEnd, rowCount, tableEnd, rowsOf, rowNames, anyZero, mostRows}
+use Rattle.gsd_stores.specs.Sheet.{badTable, bodiesEnd, rowCount, tableEnd, rowsOf, rowNames, anyZero, mostRows}
 use Rattle.gsd_stores.proofs.Sheet.{nameAt, bodyAt, Exact}
 use Rattle.gsd_append.specs.declared.sheet.SheetRows.{SheetRows}
-
--- where the row at t of the table ends, if its name begins at q
-abbrev pub rowEnd : List ℕ → ℕ → ℕ → ℕ
-rowEnd s t q = q + nameSize s t + bodySize s t
 
 -- the names of the rows, and that of row i
 abbrev pub sheetNames : List ℕ → List (List ℕ)

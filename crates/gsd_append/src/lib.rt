@@ -1,7 +1,2 @@
-// The append: its stores made one after the other on the image.
-mod fill;
-mod plan;
-mod run;
+// The append.
 mod sheet;
-mod sites;
-mod turn;

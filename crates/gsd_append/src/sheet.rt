@@ -13,9 +13,9 @@ ghost use lib.Dec.{ltb};
 ghost use Rattle.gsd_format.specs.Bytes.{le, same};
 ghost use Rattle.gsd_format.specs.Types.{sizeOf};
 ghost use Rattle.gsd_format.specs.Opening.{twins};
-ghost use Rattle.gsd_stores.specs.Sheet.{rowKind, nameSize, badRow, badTable, rowCount, tableEnd, anyZero, sheetTest};
+ghost use Rattle.gsd_stores.specs.Sheet.{rowKind, nameSize, bodySize, badRow, badTable, rowCount, tableEnd, anyZero, sheetTest};
 ghost use Rattle.gsd_stores.proofs.Sheet.{rowAt};
-ghost use Rattle.gsd_append.specs.SheetRows.{rowEnd, tableTest, endTest, namesTest, Located, Found, sheetNames, nameOf, repeats};
+ghost use Rattle.gsd_append.specs.SheetRows.{tableTest, endTest, namesTest, Located, Found, sheetNames, nameOf, repeats};
 
 const MOST_ROWS: usize = 64;
 
@@ -118,7 +118,7 @@ fn table_number(sheet: &[u8]) -> u64
     0
 }
 
-// The bytes of one element of a row times M.
+// The bytes of M elements of row i.
 fn row_size(sheet: &[u8], i: usize) -> u64
     requires { ⌜ rowAt i + 16 ≤ length (now sheet) ⌝ }
     ensures { λ r. ⌜ (r ≡ le 4 (now (sheet .entry)) (rowAt i + 8) * sizeOf (rowKind (now (sheet .entry)) (rowAt i))) × (r < 34359738368) ⌝ }
@@ -140,13 +140,12 @@ fn exceeds(n: u64, each: u64, room: u64) -> bool
     room / each < n
 }
 
-// Where row i ends if its name begins at `from`; any place behind the sheet's end is sheet.len() + 1.
-fn row_end(sheet: &[u8], i: usize, from: usize) -> usize
-    requires { ⌜ (rowAt i + 16 ≤ length (now sheet)) × (from ≤ length (now sheet)) ⌝ }
-    ensures { λ r. ⌜ r ≡ min (rowEnd (now (sheet .entry)) (rowAt i) from) (length (now (sheet .entry)) + 1) ⌝ }
+// Where row i's data end if they begin at `body`; any place behind the sheet's end is sheet.len() + 1.
+fn body_end(sheet: &[u8], i: usize, body: usize) -> usize
+    requires { ⌜ rowAt i + 16 ≤ length (now sheet) ⌝ }
+    ensures { λ r. ⌜ r ≡ min (body + bodySize (now (sheet .entry)) (rowAt i)) (length (now (sheet .entry)) + 1) ⌝ }
 {
     let len = sheet.len();
-    let body = from + name_size(sheet, i);
     if len < body {
         return len + 1;
     }
@@ -168,12 +167,13 @@ fn place_rows(sheet: &[u8], count: usize) -> SheetRows
     let mut at = 4 + 16 * count;
     let mut i = 0;
     while i < count {
-        let end = row_end(sheet, i, at);
+        let body = at + name_size(sheet, i);
+        let end = body_end(sheet, i, body);
         if sheet.len() < end {
             return refused(25);
         }
         names[i] = at;
-        bodies[i] = at + name_size(sheet, i);
+        bodies[i] = body;
         at = end;
         i += 1;
     }

@@ -26,7 +26,8 @@ same-words-requires c κs = search needs
 returns : tie.Need-returns
 returns c =
     let x = c .before .before .before .before .args in
-    let words : same (part (x .a .now) (x .ai) (8 * (x .n / 8))) (part (x .b .now) (x .bi) (8 * (x .n / 8))) ≡ false = sym (c .before .same-words .ensures) ∙ not-true _ (c .if1 .taken) in
+    let words : same (part (x .a .now) (x .ai) (8 * (x .n / 8))) (part (x .b .now) (x .bi) (8 * (x .n / 8))) ≡ false =
+    sym (c .before .same-words .ensures) ∙ not-true _ (c .if1 .taken) in
     sym (halves (x .a .now) (x .ai) (x .b .now) (x .bi) (x .n) (omega arith) (omega arith) ∙ rw words)
 
 mul-same-bytes : tie.Need-mul-same-bytes
@@ -47,7 +48,8 @@ same-bytes-requires c κs = search needs
 returns-2 : tie.Need-returns-2
 returns-2 c =
     let x = c .before .before .before .before .before .args in
-    let words : same (part (x .a .now) (x .ai) (8 * (x .n / 8))) (part (x .b .now) (x .bi) (8 * (x .n / 8))) ≡ true = sym (c .before .before .same-words .ensures) ∙ not-false _ (c .before .if1 .left) in
+    let words : same (part (x .a .now) (x .ai) (8 * (x .n / 8))) (part (x .b .now) (x .bi) (8 * (x .n / 8))) ≡ true =
+    sym (c .before .before .same-words .ensures) ∙ not-false _ (c .before .if1 .left) in
     c .same-bytes .ensures ∙ sym (halves (x .a .now) (x .ai) (x .b .now) (x .bi) (x .n) (omega arith) (omega arith) ∙ rw words)
 
 pub same-part-spec : {M : Type 1} → statement M

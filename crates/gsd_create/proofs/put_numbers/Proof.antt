@@ -36,7 +36,8 @@ same-length c = search needs
 
 returns : tie.Need-returns
 returns c =
-    let x = c .before .before .before .before .before .before .before .before .before .before .before .before .before .before .before .before .before .before .before .before .before .before .before .before .before .before .before .before .before .args in
+    let midway = c .before .before .before .before .before .before .before .before .before .before .before .before .before .before .before in
+    let x = midway .before .before .before .before .before .before .before .before .before .before .before .before .before .before .args in
     cc (put-numbers (x .s .now) (x .schema-version) (x .slots) (x .segments))
 
 pub put-numbers-spec : {M : Type 1} → statement M

@@ -1,21 +1,19 @@
--- `gsd_append::sheet::place_rows` meets its contract.
-use Prim.Native.Nat.{_+_}
-use mathlib.Core.Path.{sym, _∙_, ap}
+-- `gsd_append::sheet::place_rows` meets its contract: the rows passed are placed.
+use Prim.Native.Nat.{_+_, _-_, _≤_}
+use mathlib.Core.Path.{_≡_, sym, _∙_, ap}
 use native.Mathlib.Omega.{arith}
-use Prim.Native.Nat.{_-_, _≤_}
-use mathlib.Core.Path.{_≡_}
 use lib.ListN.{length}
 use borrow.Author.Needs.{needs}
 use Rattle.gsd_stores.specs.Sheet.{rowCount}
-use Rattle.gsd_stores.proofs.Sheet.{nameAt, bodyAt, Exact}
-use Rattle.gsd_append.specs.SheetRows.{endTest, Filled}
-use Rattle.gsd_append.proofs.SheetRows.{name-first, exact-end, other-end, name-next, late-end, filled-none, filled-to, filled-more, refused-found}
+use Rattle.gsd_stores.proofs.Sheet.{nameAt, Exact}
+use Rattle.gsd_append.specs.SheetRows.{endTest}
+use Rattle.gsd_append.proofs.SheetRows.{name-first, exact-end, other-end, name-next, late-end, filled-none, filled-to, filled-more, Placed, refused-found}
 use Rattle.gsd_append.proofs.sheet.place_rows.Statement.{statement}
 use Rattle.gsd_append.proofs.sheet.place_rows.Tie as tie
 
 abbrev Inv-loop : tie.InvT-loop
 Inv-loop sheet count names₀ bodies₀ at₀ i₀ names bodies at i =
-    (i ≤ count) × (at ≡ nameAt sheet i) × (at ≤ length sheet) × Filled (nameAt sheet) names i × Filled (bodyAt sheet) bodies i × (length names ≡ 65) × (length bodies ≡ 64)
+    (i ≤ count) × Placed sheet i at names bodies × (length names ≡ 65) × (length bodies ≡ 64)
 
 abbrev μ-loop : tie.MeasureT-loop
 μ-loop sheet count names₀ bodies₀ at₀ i₀ names bodies at i = count - i
@@ -29,17 +27,23 @@ add-at c = search needs
 loop-holds : tie.Need-loop-holds Inv-loop μ-loop
 loop-holds c =
     let s = c .before .args .sheet .now in
-    (search needs, omega (arith, name-first s), search needs, filled-none, filled-none, search needs, search needs)
+    (search needs, record { next = omega (arith, name-first s); inside = search needs; name = filled-none; body = filled-none }, search needs, search needs)
 
-row-end-requires : tie.Need-row-end-requires Inv-loop μ-loop
-row-end-requires c κs = search needs
+name-size-requires : tie.Need-name-size-requires Inv-loop μ-loop
+name-size-requires c κs = search needs
+
+add-body : tie.Need-add-body Inv-loop μ-loop
+add-body c = search needs
+
+body-end-requires : tie.Need-body-end-requires Inv-loop μ-loop
+body-end-requires c κs = search needs
 
 refused-requires : tie.Need-refused-requires Inv-loop μ-loop
 refused-requires c κs = search needs
 
 returns : tie.Need-returns Inv-loop μ-loop
 returns c =
-    let head = c .before .before .before .before in
+    let head = c .before .before .before .before .before in
     let s = head .before .before .args .sheet .now in
     let late : endTest s ≡ 25 = late-end s (head .loop .i + 1) (omega arith) (omega (arith, name-next s (head .loop .i))) in
     refused-found s (endTest s) _ (λ z. omega arith) (c .refused .ensures ∙ sym late)
@@ -49,12 +53,6 @@ mul-names c = search needs
 
 array-write-names : tie.Need-array-write-names Inv-loop μ-loop
 array-write-names c = search needs
-
-name-size-requires : tie.Need-name-size-requires Inv-loop μ-loop
-name-size-requires c κs = search needs
-
-add-bodies : tie.Need-add-bodies Inv-loop μ-loop
-add-bodies c = search needs
 
 mul-bodies : tie.Need-mul-bodies Inv-loop μ-loop
 mul-bodies c = search needs
@@ -72,12 +70,14 @@ loop-again : tie.Need-loop-again Inv-loop μ-loop
 loop-again c =
     let head = c .before .before .before .before in
     let s = head .before .before .args .sheet .now in
-    let i = head .loop .i in (
+    let placed = head .loop .inv .1 in (
       search needs,
-      omega (arith, name-next s i),
-      search needs,
-      filled-more (head .loop .inv .3) (omega arith) (head .loop .inv .1),
-      filled-more (head .loop .inv .4) (omega arith) (omega arith),
+      record {
+        next = omega (arith, name-next s (head .loop .i));
+        inside = omega arith;
+        name = filled-more (placed .name) (omega arith) (placed .next);
+        body = filled-more (placed .body) (omega arith) (omega arith);
+      },
       search needs,
       search needs,
     )
@@ -85,7 +85,7 @@ loop-again c =
 -- behind the last row
 ended : (c : tie.After-loop Inv-loop μ-loop)
     → let s = c .before .before .before .args .sheet .now in c .before .loop .at ≡ nameAt s (rowCount s)
-ended c = let s = c .before .before .before .args .sheet .now in c .before .loop .inv .1 ∙ ap (nameAt s) (omega arith)
+ended c = c .before .loop .inv .1 .next ∙ ap (nameAt (c .before .before .before .args .sheet .now)) (omega arith)
 
 refused-requires-2 : tie.Need-refused-requires-2 Inv-loop μ-loop
 refused-requires-2 c κs = search needs
@@ -104,8 +104,9 @@ array-write-names-2 c = search needs
 
 returns-3 : tie.Need-returns-3 Inv-loop μ-loop
 returns-3 c =
-    let s = c .before .before .before .before .args .sheet .now in
     let head = c .before .before in
+    let s = head .before .before .args .sheet .now in
+    let placed = head .loop .inv .1 in
     let exact : Exact s = omega (arith, ended (c .before)) in
     record {
       number = sym (exact-end s exact);
@@ -113,8 +114,8 @@ returns-3 c =
       rows = λ z. record {
         few = search needs;
         exact = exact;
-        name = filled-to (omega arith) (filled-more (filled-to (omega arith) (head .loop .inv .3)) (omega arith) (head .loop .inv .1 ∙ ap (nameAt s) (omega arith)));
-        body = filled-to (omega arith) (head .loop .inv .4);
+        name = filled-to (omega arith) (filled-more (filled-to (omega arith) (placed .name)) (omega arith) (placed .next ∙ ap (nameAt s) (omega arith)));
+        body = filled-to (omega arith) (placed .body);
       };
     }
 
@@ -127,13 +128,13 @@ place-rows-spec =
     mul-at
     add-at
     loop-holds
-    row-end-requires
+    name-size-requires
+    add-body
+    body-end-requires
     refused-requires
     returns
     mul-names
     array-write-names
-    name-size-requires
-    add-bodies
     mul-bodies
     array-write-bodies
     add-i

@@ -1,4 +1,4 @@
--- `gsd_append::sheet::row_end` meets its contract.
+-- `gsd_append::sheet::body_end` meets its contract: N times the rest is the size of the data.
 use Prim.Native.Nat.{_*_}
 use mathlib.Core.Path.{_≡_, sym, _∙_}
 use native.Mathlib.Omega.{arith}
@@ -7,14 +7,8 @@ use borrow.Author.Needs.{needs}
 use Rattle.gsd_stores.specs.Sheet.{bodySize}
 use Rattle.gsd_stores.proofs.Sheet.{rowAt}
 use Rattle.gsd_append.proofs.SheetRows.{body-product}
-use Rattle.gsd_append.proofs.sheet.row_end.Statement.{statement}
-use Rattle.gsd_append.proofs.sheet.row_end.Tie as tie
-
-name-size-requires : tie.Need-name-size-requires
-name-size-requires c κs = search needs
-
-add-body : tie.Need-add-body
-add-body c = search needs
+use Rattle.gsd_append.proofs.sheet.body_end.Statement.{statement}
+use Rattle.gsd_append.proofs.sheet.body_end.Tie as tie
 
 add-result : tie.Need-add-result
 add-result c = search needs
@@ -28,6 +22,10 @@ row-n-requires c κs = search needs
 row-size-requires : tie.Need-row-size-requires
 row-size-requires c κs = search needs
 
+product : (c : tie.After-row-size)
+    → c .before .row-n .result * c .row-size .result ≡ bodySize (c .before .before .before .before .args .sheet .now) (rowAt (c .before .before .before .before .args .i))
+product c = cc (body-product (c .before .before .before .before .args .sheet .now) (rowAt (c .before .before .before .before .args .i)))
+
 exceeds-requires : tie.Need-exceeds-requires
 exceeds-requires c κs = search needs
 
@@ -35,10 +33,7 @@ add-result-2 : tie.Need-add-result-2
 add-result-2 c = search needs
 
 returns-2 : tie.Need-returns-2
-returns-2 c =
-    let x = c .before .before .before .before .before .before .before .args in
-    let e : c .before .before .before .row-n .result * c .before .before .row-size .result ≡ bodySize (x .sheet .now) (rowAt (x .i)) = cc (body-product (x .sheet .now) (rowAt (x .i))) in
-    let h = sym (c .before .exceeds .ensures) ∙ c .if2 .taken in omega (arith, ltb-true)
+returns-2 c = let h = sym (c .before .exceeds .ensures) ∙ c .if2 .taken in omega (arith, ltb-true, product (c .before .before))
 
 mul-result : tie.Need-mul-result
 mul-result c = let h = sym (c .before .exceeds .ensures) ∙ c .if2 .left in omega (arith, ltb-false)
@@ -47,17 +42,12 @@ add-result-3 : tie.Need-add-result-3
 add-result-3 c = let h = sym (c .before .exceeds .ensures) ∙ c .if2 .left in omega (arith, ltb-false)
 
 returns-3 : tie.Need-returns-3
-returns-3 c =
-    let x = c .before .before .before .before .before .before .before .args in
-    let e : c .before .before .before .row-n .result * c .before .before .row-size .result ≡ bodySize (x .sheet .now) (rowAt (x .i)) = cc (body-product (x .sheet .now) (rowAt (x .i))) in
-    let h = sym (c .before .exceeds .ensures) ∙ c .if2 .left in omega (arith, ltb-false)
+returns-3 c = let h = sym (c .before .exceeds .ensures) ∙ c .if2 .left in omega (arith, ltb-false, product (c .before .before))
 
-pub row-end-spec : {M : Type 1} → statement M
-row-end-spec =
+pub body-end-spec : {M : Type 1} → statement M
+body-end-spec =
     tie.close
     (tie.spec
-    name-size-requires
-    add-body
     add-result
     returns
     row-n-requires
