@@ -20,4 +20,4 @@ pub mod GoodRuns
 pub mod Appends
 pub mod Sorting
 pub mod EntryOrder
--- Laws that the append's proofs cite.
+pub mod Assembly

@@ -11,13 +11,14 @@ use Rattle.gsd_append.specs.declared.fill.BodyPlaces.{BodyPlaces}
 use Rattle.gsd_append.specs.declared.fill.NamePlaces.{NamePlaces}
 use Rattle.gsd_append.specs.declared.fill.EntryNumbers.{EntryNumbers}
 use Rattle.gsd_append.specs.SheetRows.{Filled}
+use Rattle.gsd_append.specs.Runs.{half}
 
 -- row i's name lies in the sheet from names i to bodies i, its data from there to names (i + 1)
 pub record Laid (names bodies : List ℕ) (count : ℕ) : Type 0 where
   pub few : count ≤ 64
   pub name : (i : ℕ) → i < count → getD names i 0 ≤ getD bodies i 0
   pub body : (i : ℕ) → i < count → getD bodies i 0 ≤ getD names (i + 1) 0
-  pub small : (i : ℕ) → i ≤ count → getD names i 0 < 4611686018427387904
+  pub small : (i : ℕ) → i ≤ count → getD names i 0 ≤ half
 
 -- how far behind the first row's data row i's begin
 unfoldable pub dataOffset : List ℕ → List ℕ → ℕ → ℕ

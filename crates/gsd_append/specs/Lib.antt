@@ -7,3 +7,5 @@ pub mod Sites
 pub mod SheetRows
 pub mod Filling
 pub mod Order
+pub mod RowIds
+pub mod Planning
