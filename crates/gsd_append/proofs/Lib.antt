@@ -21,3 +21,4 @@ pub mod Appends
 pub mod Sorting
 pub mod EntryOrder
 pub mod Assembly
+pub mod PlanMatch

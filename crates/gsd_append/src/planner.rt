@@ -138,22 +138,31 @@ fn join<'a>(
     let block = chosen(s.names_move, s.body, v.layout.namelist) as usize;
     let index = chosen(s.index_moves, s.names, v.layout.index) as usize;
     let found = place_names(names, bodies, rows, fresh, block + (v.end - v.layout.namelist as usize));
-    let numbers = fill_entries(sheet, order, &b.to, count);
+    let body_to = b.to;
+    let body_from = *bodies;
+    let body_until = b.until;
+    let name_at = found.at;
+    let name_from = found.from;
+    let name_until = found.until;
+    let numbers = fill_entries(sheet, order, &body_to, count);
+    let n = numbers.n;
+    let meta = numbers.meta;
+    let location = numbers.location;
     Plan {
         rows: count,
         fresh,
         heads,
-        body_to: b.to,
-        body_from: *bodies,
-        body_until: b.until,
-        name_at: found.at,
-        name_from: found.from,
-        name_until: found.until,
+        body_to,
+        body_from,
+        body_until,
+        name_at,
+        name_from,
+        name_until,
         slot: index + 32 * v.entries as usize,
         frame: v.frames,
-        n: numbers.n,
-        meta: numbers.meta,
-        location: numbers.location,
+        n,
+        meta,
+        location,
     }
 }
 
@@ -182,7 +191,8 @@ fn plan_rows<'a>(
         return refused(29);
     }
     let heads = heads_for(v.layout, v.entries as usize, v.end, sites);
-    let order = sort(ids.packed, count);
+    let packed = ids.packed;
+    let order = sort(packed, count);
     let plan = join(sheet, names, bodies, &ids.rows, &order, count, ids.fresh, v, sites, heads, places);
     Planning { number: 0, plan }
 }
