@@ -11,5 +11,5 @@ pub mod Runs
 pub mod Turns
 pub mod Sorting
 pub mod EntryOrder
--- Laws that the append's proofs cite.
 pub mod SheetRows
+pub mod RowIds

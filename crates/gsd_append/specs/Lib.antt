@@ -5,3 +5,4 @@ pub mod Matches
 pub mod Turns
 pub mod Order
 pub mod SheetRows
+pub mod RowIds
