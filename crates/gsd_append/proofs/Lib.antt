@@ -22,3 +22,4 @@ pub mod Sorting
 pub mod EntryOrder
 pub mod Assembly
 pub mod PlanMatch
+pub mod RowIds

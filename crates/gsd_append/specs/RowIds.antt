@@ -18,7 +18,7 @@ pairOf names rs i = paired (indexOf (getD rs i noRow .name) (names ++ newNames n
 -- a row with this name, before row n
 pub record RowNamed (rs : List Row) (n row : ℕ) (name : List ℕ) : Type 0 where
   pub within : row < n
-  pub name : getD rs row noRow .name ≡ name
+  pub named : getD rs row noRow .name ≡ name
 
 pub record IdsFound (names : List (List ℕ)) (rs : List Row) (r : Ids) : Type 0 where
   pub pairs : Filled (pairOf names rs) (r .packed) (length rs)
