@@ -58,7 +58,7 @@ module _ {s names bodies : List ℕ} (h : Located s names bodies) where
     row-within j l = rw (rows-count s) at (named j l .within)
 
     pub new-size : (j : ℕ) → j < length fresh → getD bodies (getD rows j 0) 0 ≡ getD names (getD rows j 0) 0 + length (getD fresh j [])
-    new-size j l = omega (arith, name-size (getD rows j 0) (row-within j l), ap length (named j l .name))
+    new-size j l = omega (arith, name-size (getD rows j 0) (row-within j l), ap length (named j l .named))
 
     pub name-offset : (j : ℕ) → j ≤ length fresh → nameOffset names bodies rows j ≡ length (flat (take j fresh))
     name-offset zero l = name-none names bodies rows ∙ sym (ap length flat-none)

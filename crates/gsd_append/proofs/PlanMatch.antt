@@ -13,7 +13,7 @@ use Rattle.gsd_format.specs.declared.Entry.{Entry}
 use Rattle.gsd_format.specs.Bytes.{le, roundUp}
 use Rattle.gsd_format.specs.Header.{greatestLength, layoutOf}
 use Rattle.gsd_format.specs.Types.{chunkSize}
-use Rattle.gsd_format.specs.Names.{flat, namesOf}
+use Rattle.gsd_format.specs.Names.{flat, indexOf, namesOf}
 use Rattle.gsd_format.specs.Entries.{chunksEnd, entriesOf, framesOf}
 use Rattle.gsd_format.specs.Lookup.{none}
 use Rattle.gsd_format.specs.Opening.{verdict}
@@ -42,7 +42,8 @@ use Rattle.gsd_append.specs.declared.ids.Ids.{Ids}
 use Rattle.gsd_append.specs.declared.planner.Seen.{Seen}
 use Rattle.gsd_append.specs.declared.planner.Planning.{Planning}
 use Rattle.gsd_append.specs.Runs.{half}
-use Rattle.gsd_append.specs.Order.{Sorted}
+use Rattle.gsd_append.specs.Order.{Sorted, paired}
+use Rattle.gsd_append.specs.RowIds.{RowNamed}
 use Rattle.gsd_append.specs.Filling.{Laid, dataOffset, nameOffset, BodiesPlaced}
 use Rattle.gsd_append.specs.Matches.{HeadsMatch, BodyMatch, NameMatch, EntryMatch, Matches}
 use Rattle.gsd_append.specs.Sites.{sitesOf, clearsOf, nameBlockOf, indexBlockOf, headsOf}
@@ -138,10 +139,10 @@ module _ (x sheet : List ℕ) (s : Seen) (see : Sees x s) (names bodies : List �
   plan = plan-is v rs
 
   count-is : count ≡ length rs
-  count-is = ask .count ∙ sym (rows-count sheet)
+  count-is = ask .counted ∙ sym (rows-count sheet)
 
   pub rows-laid : length sheet ≤ half → Laid names bodies count
-  rows-laid h = rw (ask .count) (located-laid (ask .located) h)
+  rows-laid h = rw (ask .counted) (located-laid (ask .located) h)
 
   module _ (start : ℕ) (started : start ≡ endOfUse v) (b : BodyPlaces) (placed : BodiesPlaced names bodies count start b) where
     pub ends : b .end ≡ dataEnd p
@@ -149,7 +150,7 @@ module _ (x sheet : List ℕ) (s : Seen) (see : Sees x s) (names bodies : List �
       arith,
       placed .end,
       plan-start v rs,
-      ap (dataOffset names bodies) (ask .count),
+      ap (dataOffset names bodies) (ask .counted),
       data-end (ask .located),
       offset-last rs,
       ap length (plan .body),
@@ -208,3 +209,26 @@ module _ (x sheet : List ℕ) (s : Seen) (see : Sees x s) (names bodies : List �
             let f : h ≡ _ = e ∙ λ i. headsOf (clearsOf (see .layout i) (see .entries i) (see .end i)) (nameBlockOf (see .layout i) (see .end i) (sites-are i))
                 (indexBlockOf (see .layout i) (see .entries i) (sites-are i)) in
             subst (HeadsMatch v p) (sym f) (heads-match v rs)
+
+        -- the plan's arrays
+        module _ (octets : Octets sheet) (order : List ℕ) (long : length (ids .packed) ≡ 64) (sorted : Sorted (ids .packed) count order) where
+          fresh-are : length (newNames (v .names) rs) ≡ ids .fresh
+          fresh-are = sym (ask .ids .fresh)
+
+          row-named : (j : ℕ) → j < length (newNames (v .names) rs) → RowNamed rs (length rs) (getD (ids .rows) j 0) (getD (newNames (v .names) rs) j [])
+          row-named j l = ask .ids .rows j (omega (arith, fresh-are))
+
+          id-order : Sorted (ids .packed) (length rs) order
+          id-order = rw count-is at sorted
+
+          pairs : (i : ℕ) → i < length rs → getD (ids .packed) i 0 ≡ paired (indexOf (getD rs i noRow .name) (namesAfter v p)) i
+          pairs i l = ask .ids .pairs .at i l ∙ ap (λ f. paired (indexOf (getD rs i noRow .name) (v .names ++ f)) i) (sym (plan .fresh))
+
+          few : length rs ≤ 64
+          few = omega (arith, rows-count sheet, ready .few)
+
+          pair : (k : ℕ) → k < length rs → Pair v rs p plan (ready .distinct) few (getD order k 0)
+          pair = pair-at v rs p plan (ready .distinct) few (ids .packed) order pairs (omega arith) id-order
+
+          entry : (k : ℕ) → k < length rs → getD (p .entries) k none ≡ rowEntry v rs p (getD order k 0 % 64)
+          entry = entry-at v rs p plan (ready .distinct) few (ids .packed) order pairs (omega arith) id-order

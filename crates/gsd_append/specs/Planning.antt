@@ -41,7 +41,7 @@ pub record Sees (x : List ℕ) (s : Seen) : Type 0 where
 pub record Asked (x sheet names bodies : List ℕ) (count : ℕ) (ids : Ids) : Type 0 where
   pub accepted : sheetTest sheet ≡ 0
   pub located : Located sheet names bodies
-  pub count : count ≡ rowCount sheet
+  pub counted : count ≡ rowCount sheet
   pub ids : IdsFound (viewOf x .names) (rowsOf sheet) ids
 
 -- what the runs that are there once need of the layout, the lists' ends and the sites
@@ -66,13 +66,13 @@ abbrev pub firstSlot : Seen → Sites → ℕ
 firstSlot v s = cond (s .«index_moves») (s .names) (v .layout .index) + 32 * v .entries
 
 -- what the arrays need
-pub record Joinable (sheet names bodies rows order : List ℕ) (count fresh : ℕ) (v : Seen) (s : Sites) : Type 0 where
+pub record Joinable (sheet names bodies which order : List ℕ) (count new : ℕ) (v : Seen) (s : Sites) : Type 0 where
   pub few : count ≤ 64
-  pub fewNew : fresh ≤ 64
+  pub fewNew : new ≤ 64
   pub table : rowAt count ≤ length sheet
-  pub rows : (j : ℕ) → j < fresh → getD rows j 0 < 64
-  pub name : (j : ℕ) → j < fresh → getD names (getD rows j 0) 0 ≤ getD bodies (getD rows j 0) 0
-  pub short : (j : ℕ) → j < fresh → getD bodies (getD rows j 0) 0 < getD names (getD rows j 0) 0 + 256
+  pub rows : (j : ℕ) → j < new → getD which j 0 < 64
+  pub name : (j : ℕ) → j < new → getD names (getD which j 0) 0 ≤ getD bodies (getD which j 0) 0
+  pub short : (j : ℕ) → j < new → getD bodies (getD which j 0) 0 < getD names (getD which j 0) 0 + 256
   pub row : (k : ℕ) → k < count → getD order k 0 % 64 < count
   pub id : (k : ℕ) → k < count → getD order k 0 / 64 < 65536
   pub body : s .body < 1152921504606846976
@@ -81,14 +81,14 @@ pub record Joinable (sheet names bodies rows order : List ℕ) (count fresh : �
   pub index : v .layout .index + 32 * v .entries ≤ greatestLength
 
 -- a plan joined from its parts
-pub record Joined (sheet names bodies rows order : List ℕ) (count fresh : ℕ) (v : Seen) (s : Sites) (h : Heads) (b : BodyPlaces) (c : Plan) : Type 0 where
+pub record Joined (sheet names bodies which order : List ℕ) (count new : ℕ) (v : Seen) (s : Sites) (h : Heads) (b : BodyPlaces) (c : Plan) : Type 0 where
   pub rows : c .rows ≡ count
-  pub fresh : c .fresh ≡ fresh
+  pub fresh : c .fresh ≡ new
   pub heads : c .heads ≡ h
   pub bodyTo : c .«body_to» ≡ b .to
   pub bodyFrom : c .«body_from» ≡ bodies
   pub bodyUntil : c .«body_until» ≡ b .until
-  pub newNames : NamesPlaced names bodies rows fresh (firstName v s) (record { at = c .«name_at»; from = c .«name_from»; until = c .«name_until» })
+  pub newNames : NamesPlaced names bodies which new (firstName v s) (record { at = c .«name_at»; from = c .«name_from»; until = c .«name_until» })
   pub slot : c .slot ≡ firstSlot v s
   pub frame : c .frame ≡ v .frames
   pub newEntries : EntriesFilled sheet order (b .to) count (record { n = c .n; meta = c .meta; location = c .location })
