@@ -42,7 +42,7 @@ pub record Asked (x sheet names bodies : List ℕ) (count : ℕ) (ids : Ids) : T
   pub accepted : sheetTest sheet ≡ 0
   pub located : Located sheet names bodies
   pub counted : count ≡ rowCount sheet
-  pub ids : IdsFound (viewOf x .names) (rowsOf sheet) ids
+  pub found : IdsFound (viewOf x .names) (rowsOf sheet) ids
 
 -- what the runs that are there once need of the layout, the lists' ends and the sites
 pub record Sited (l : Layout) (entries end : ℕ) (s : Sites) : Type 0 where

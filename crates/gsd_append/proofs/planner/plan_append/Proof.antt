@@ -1,0 +1,74 @@
+use borrow.Author.Needs.{needs}
+use Rattle.gsd_append.proofs.planner.plan_append.Statement.{statement}
+use Rattle.gsd_append.proofs.planner.plan_append.Tie as tie
+use Rattle.gsd_append.proofs.planner.plan_append.Reads as reads
+use Rattle.gsd_append.proofs.planner.plan_append.Lts as lts
+use Rattle.gsd_append.proofs.planner.plan_names.Reads as plan-names-reads
+use Rattle.gsd_append.proofs.planner.refused.Reads as refused-reads
+use Rattle.gsd_append.proofs.sheet.sheet_rows.Reads as sheet-rows-reads
+use Rattle.gsd_read.proofs.survey_of.Reads as survey-of-reads
+
+-- src/planner.rt:226:13
+survey-of-requires : tie.Need-survey-of-requires
+survey-of-requires c κs = search needs
+
+-- src/planner.rt:228:9
+refused-requires : tie.Need-refused-requires
+refused-requires c κs = search needs
+
+-- src/planner.rt:228:9
+returns : tie.Need-returns
+returns c = ?
+
+-- src/planner.rt:231:9
+refused-requires-2 : tie.Need-refused-requires-2
+refused-requires-2 c κs = search needs
+
+-- src/planner.rt:231:9
+returns-2 : tie.Need-returns-2
+returns-2 c = ?
+
+-- src/planner.rt:234:9
+refused-requires-3 : tie.Need-refused-requires-3
+refused-requires-3 c κs = search needs
+
+-- src/planner.rt:234:9
+returns-3 : tie.Need-returns-3
+returns-3 c = ?
+
+-- src/planner.rt:236:16
+sheet-rows-requires : tie.Need-sheet-rows-requires
+sheet-rows-requires c κs = search needs
+
+-- src/planner.rt:238:9
+refused-requires-4 : tie.Need-refused-requires-4
+refused-requires-4 c κs = search needs
+
+-- src/planner.rt:238:9
+returns-4 : tie.Need-returns-4
+returns-4 c = ?
+
+-- src/planner.rt:247:5
+plan-names-requires : tie.Need-plan-names-requires
+plan-names-requires c κs = ?
+
+-- src/planner.rt:223:1
+returns-5 : tie.Need-returns-5
+returns-5 c = ?
+
+pub plan-append-spec : {M : Type 1} → statement M
+plan-append-spec =
+    tie.close
+    (tie.spec
+    survey-of-requires
+    refused-requires
+    returns
+    refused-requires-2
+    returns-2
+    refused-requires-3
+    returns-3
+    sheet-rows-requires
+    refused-requires-4
+    returns-4
+    plan-names-requires
+    returns-5)

@@ -1,0 +1,87 @@
+use borrow.Author.Needs.{needs}
+use Rattle.gsd_append.proofs.planner.plan_rows.Statement.{statement}
+use Rattle.gsd_append.proofs.planner.plan_rows.Tie as tie
+use Rattle.gsd_append.proofs.planner.plan_rows.Reads as reads
+use Rattle.gsd_append.proofs.planner.plan_rows.Lts as lts
+use Rattle.gsd_append.proofs.fill.place_bodies.Reads as place-bodies-reads
+use Rattle.gsd_append.proofs.order.sort.Reads as sort-reads
+use Rattle.gsd_append.proofs.planner.heads_for.Reads as heads-for-reads
+use Rattle.gsd_append.proofs.planner.join.Reads as join-reads
+use Rattle.gsd_append.proofs.planner.refused.Reads as refused-reads
+use Rattle.gsd_append.proofs.sites.end_of_use.Reads as end-of-use-reads
+use Rattle.gsd_append.proofs.sites.find_sites.Reads as find-sites-reads
+
+-- src/planner.rt:182:17
+end-of-use-requires : tie.Need-end-of-use-requires
+end-of-use-requires c κs = ?
+
+-- src/planner.rt:183:9
+place-bodies-requires : tie.Need-place-bodies-requires
+place-bodies-requires c κs = ?
+
+-- src/planner.rt:186:9
+refused-requires : tie.Need-refused-requires
+refused-requires c κs = search needs
+
+-- src/planner.rt:186:9
+returns : tie.Need-returns
+returns c = ?
+
+-- src/planner.rt:188:17
+sub-bytes : tie.Need-sub-bytes
+sub-bytes c = ?
+
+-- src/planner.rt:188:17
+add-bytes : tie.Need-add-bytes
+add-bytes c = ?
+
+-- src/planner.rt:189:71
+add-find-sites : tie.Need-add-find-sites
+add-find-sites c = ?
+
+-- src/planner.rt:189:9
+find-sites-requires : tie.Need-find-sites-requires
+find-sites-requires c κs = ?
+
+-- src/planner.rt:191:9
+refused-requires-2 : tie.Need-refused-requires-2
+refused-requires-2 c κs = search needs
+
+-- src/planner.rt:191:9
+returns-2 : tie.Need-returns-2
+returns-2 c = ?
+
+-- src/planner.rt:193:9
+heads-for-requires : tie.Need-heads-for-requires
+heads-for-requires c κs = ?
+
+-- src/planner.rt:195:17
+sort-requires : tie.Need-sort-requires
+sort-requires c κs = ?
+
+-- src/planner.rt:196:9
+join-requires : tie.Need-join-requires
+join-requires c κs = ?
+
+-- src/planner.rt:170:1
+returns-3 : tie.Need-returns-3
+returns-3 c = ?
+
+pub plan-rows-spec : {M : Type 1} → statement M
+plan-rows-spec =
+    tie.close
+    (tie.spec
+    end-of-use-requires
+    place-bodies-requires
+    refused-requires
+    returns
+    sub-bytes
+    add-bytes
+    add-find-sites
+    find-sites-requires
+    refused-requires-2
+    returns-2
+    heads-for-requires
+    sort-requires
+    join-requires
+    returns-3)
