@@ -1,14 +1,14 @@
 -- What the planner finds is what the append is to do: places, numbers, and a plan that matches.
 use Prim.Native.Nat.{ℕ, zero, suc, _+_, _*_, _-_, _/_, _%_, _≤_, _<_, max}
 use mathlib.Core.Path.{_≡_, refl, sym, _∙_, ap, subst}
-use mathlib.Core.Bool.{Bool, true, false, cond}
+use mathlib.Core.Bool.{Bool, true, false, not, cond}
 use mathlib.Core.List.{List, [], _∷_, _++_}
 use native.Mathlib.Numerals.{add-one}
 use native.Mathlib.Omega.{arith}
 use lib.ListN.{length, getD, take, length-append}
 use lib.Seq.{take-length}
-use lib.Dec.{ltb}
-use borrow.Author.Tests.{lt-ltb, le-ltb}
+use lib.Dec.{ltb, eqb}
+use borrow.Author.Tests.{lt-ltb, le-ltb, eq-eqb, ne-eqb}
 use Rattle.gsd_format.specs.declared.Entry.{Entry}
 use Rattle.gsd_format.specs.Bytes.{le, roundUp}
 use Rattle.gsd_format.specs.Header.{greatestLength, layoutOf}
@@ -18,22 +18,24 @@ use Rattle.gsd_format.specs.Entries.{chunksEnd, entriesOf, framesOf}
 use Rattle.gsd_format.specs.Lookup.{none}
 use Rattle.gsd_format.specs.Opening.{verdict, mostNames}
 use Rattle.gsd_format.specs.Refusals.{_⇒_, _▹_}
-use Rattle.gsd_format.proofs.Refusals.{met, passed, decides, goes-on}
+use Rattle.gsd_format.proofs.Refusals.{met, passed, decides, goes-on, first-of, stays, left-holds, right-decides, neither-of, not-of}
 use Rattle.gsd_format.proofs.Bytes.{Octets}
 use Rattle.gsd_format.proofs.Names.{flat-sizes, names-hold, names-of, names-pass}
 use Rattle.gsd_format.proofs.Entries.{image-entries}
 use Rattle.gsd_format.proofs.Walk.{chunks-none, chunks-more}
 use Rattle.gsd_format.proofs.Verdict.{Opens, verdict-zero}
 use Rattle.gsd_stores.specs.View.{View, viewOf, endOfUse, indexEnd, namelistEnd, namesEnd}
-use Rattle.gsd_stores.specs.Sheet.{Row, rowKind, rowCount, rowsOf, tableEnd}
+use Rattle.gsd_stores.specs.Sheet.{Row, rowCount, rowsOf, sheetTest}
 use Rattle.gsd_stores.specs.Plan.{Plan as Defined, planOf, newNames, grown, dataEnd, finalPosition}
 use Rattle.gsd_stores.specs.Steps.{nameBlock, indexBlock}
-use Rattle.gsd_stores.specs.Append.{planTest}
+use Rattle.gsd_stores.specs.Append.{planTest, appendTest}
 use Rattle.gsd_stores.specs.Demand3.{noRow}
 use Rattle.gsd_stores.proofs.Sheet.{Accepted, accepted, rowFrom, rowAt, nameAt, bodyAt, rows-count, row-at}
 use Rattle.gsd_stores.proofs.Rows.{bodyOffset, offset-last, new-names, new-few, all-has}
 use Rattle.gsd_stores.proofs.Plan.{Planned, EndOfUse, end-of-use, namesAfter, rowEntry, entries-count, positions, grown-enough, doubled-range}
 use Rattle.gsd_stores.proofs.Plan.{planned as plan-is}
+use Rattle.gsd_read.specs.declared.survey.Survey.{Survey}
+use Rattle.gsd_read.specs.Surveys.{Surveyed}
 use Rattle.gsd_append.specs.declared.plan.Heads.{Heads}
 use Rattle.gsd_append.specs.declared.plan.Plan.{Plan}
 use Rattle.gsd_append.specs.declared.sites.Sites.{Sites}
@@ -45,7 +47,8 @@ use Rattle.gsd_append.specs.declared.planner.Seen.{Seen}
 use Rattle.gsd_append.specs.declared.planner.Planning.{Planning}
 use Rattle.gsd_append.specs.Runs.{half, planFrom}
 use Rattle.gsd_append.specs.Order.{Sorted, paired}
-use Rattle.gsd_append.specs.RowIds.{RowNamed}
+use Rattle.gsd_append.specs.RowIds.{RowNamed, IdsFound}
+use Rattle.gsd_append.specs.SheetRows.{Located}
 use Rattle.gsd_append.specs.Filling.{Laid, dataOffset, nameOffset, BodiesPlaced, NamesPlaced, EntriesFilled}
 use Rattle.gsd_append.specs.Matches.{HeadsMatch, BodyMatch, NameMatch, EntryMatch, Matches}
 use Rattle.gsd_append.specs.Sites.{sitesOf, clearsOf, nameBlockOf, indexBlockOf, headsOf}
@@ -117,7 +120,7 @@ module _ (x : List ℕ) (s : Seen) (see : Sees x s) where
   }
 
   pub use-need : (indexEnd (s .layout) ≤ greatestLength) × (namelistEnd (s .layout) ≤ greatestLength) × (s .chunks ≤ greatestLength)
-  use-need = (seen-within .index, (seen-within .names, seen-within .chunks))
+  use-need = (seen-within .index, seen-within .names, seen-within .chunks)
 
   -- where the data begin
   pub use-found : (r : ℕ) → r ≡ roundUp 8 (max 256 (max (indexEnd (s .layout)) (max (namelistEnd (s .layout)) (s .chunks)))) → r ≡ endOfUse (viewOf x)
@@ -202,7 +205,7 @@ module _ (x sheet : List ℕ) (s : Seen) (see : Sees x s) (names bodies : List �
   sites-need end e bytes f =
       let w : Within s = seen-within x s see in
       let long : length x ≤ greatestLength = omega (arith, view-room x (see .opens) .long, view-length x) in
-      (omega arith, (f, (entries-small, (omega arith, omega arith))))
+      (omega arith, f, entries-small, omega arith, omega arith)
 
   module _ (start : ℕ) (started : start ≡ endOfUse v) (b : BodyPlaces) (placed : BodiesPlaced names bodies count start b) where
     pub ends : b .end ≡ dataEnd p
@@ -374,7 +377,7 @@ module _ (x sheet : List ℕ) (s : Seen) (see : Sees x s) (names bodies : List �
                 let is : getD rs row noRow ≡ rowFrom sheet (rowAt row) (nameAt sheet row) = row-at sheet row (rw (rows-count sheet) at r) in
                 rw (entry k m) (record {
                   n = q .newEntries .n .at k n ∙ sym (ap (λ w. w .n) is);
-                  meta = q .newEntries .meta .at k n ∙ λ i. is (~ i) .m + 4294967296 * pair k m .id i + 281474976710656 * is (~ i) .kind;
+                  meta = q .newEntries .meta .at k n ∙ λ i. sym is i .m + 4294967296 * pair k m .id i + 281474976710656 * sym is i .kind;
                   location = q .newEntries .location .at k n ∙ data-place row r;
                 })
 
@@ -427,15 +430,93 @@ joined sheet names bodies which order count new v s h b block index found number
 pub plans-refused : (x sheet : List ℕ) (k n : ℕ) (r : Planning) → k ≡ suc n → r .number ≡ suc n → Plans x sheet k r
 plans-refused x sheet k n r e f = record { number = f ∙ sym e; plan = λ z. absurd (omega arith) }
 
+pub plans-made : (x sheet : List ℕ) (k : ℕ) (c : Plan) → k ≡ 0 → Matches (viewOf x) sheet (planned x sheet) c → Plans x sheet k (record { number = 0; plan = c })
+plans-made x sheet k c e m = record { number = sym e; plan = λ z. m }
+
 pub plans-same : (x sheet : List ℕ) (k n : ℕ) (r : Planning) → k ≡ n → Plans x sheet n r → Plans x sheet k r
 plans-same x sheet k n r e h = rw e h
 
+pub fresh-small : (ns : List (List ℕ)) (sheet names bodies : List ℕ) (ids : Ids) → Located sheet names bodies → IdsFound ns (rowsOf sheet) ids → ids .fresh ≤ 64
+fresh-small ns sheet names bodies ids h f = omega (arith, f .fresh, new-few (new-names ns (rowsOf sheet)), rows-count sheet, h .few)
+
 module _ (x sheet : List ℕ) where
   -- 28, then 29
-  pub many-names : mostNames < length (viewOf x .names) + length (newNames (viewOf x .names) (rowsOf sheet)) → planTest x sheet ≡ 28
-  unfolding planTest
-  many-names l = decides _ 27 _ (lt-ltb mostNames (length (viewOf x .names) + length (newNames (viewOf x .names) (rowsOf sheet))) l)
+  module _ (ns : List (List ℕ)) (listed : ℕ) (ids : Ids) (many : listed ≡ length (viewOf x .names)) (are : ns ≡ viewOf x .names) (ok : IdsFound ns (rowsOf sheet) ids) where
+    found-ids : IdsFound (viewOf x .names) (rowsOf sheet) ids
+    found-ids = rw are at ok
 
-  pub few-names : length (viewOf x .names) + length (newNames (viewOf x .names) (rowsOf sheet)) ≤ mostNames → planTest x sheet ≡ (ltb (viewOf x .layout .len) (finalPosition (planned x sheet)) ⇒ 29)
-  unfolding planTest
-  few-names l = goes-on _ 28 _ (le-ltb mostNames (length (viewOf x .names) + length (newNames (viewOf x .names) (rowsOf sheet))) l)
+    pub many-names : mostNames < listed + ids .fresh → planTest x sheet ≡ 28
+    unfolding planTest
+    many-names l = decides _ 27 _ (lt-ltb mostNames (length (viewOf x .names) + length (newNames (viewOf x .names) (rowsOf sheet))) (omega (arith, found-ids .fresh)))
+
+    pub few-names : listed + ids .fresh ≤ mostNames → planTest x sheet ≡ (ltb (viewOf x .layout .len) (finalPosition (planned x sheet)) ⇒ 29)
+    unfolding planTest
+    few-names l = goes-on _ 28 _ (le-ltb mostNames (length (viewOf x .names) + length (newNames (viewOf x .names) (rowsOf sheet))) (omega (arith, found-ids .fresh)))
+
+    pub asked : (names bodies : List ℕ) (count : ℕ) → sheetTest sheet ≡ 0 → Located sheet names bodies → count ≡ rowCount sheet → Asked x sheet names bodies count ids
+    asked names bodies count a h e = record { accepted = a; located = h; counted = e; found = found-ids }
+
+  -- the opening's number
+  pub not-opened : (n : ℕ) (r : Planning) → n ≡ verdict x → (n ≡ 0 → ⊥) → r .number ≡ n → Plans x sheet (appendTest x sheet) r
+  unfolding appendTest
+  not-opened n r e f g =
+      let k : (verdict x ≡ 0 → ⊥) = λ z. f (e ∙ z) in
+      let t : appendTest x sheet ≡ verdict x = stays (verdict x) _ k in
+      record { number = g ∙ e ∙ sym t; plan = λ z. absurd (k (sym t ∙ z)) }
+
+  module _ (s : Survey) (told : Surveyed x s) (good : s .number ≡ 0) where
+    opens : verdict x ≡ 0
+    opens = sym (told .number) ∙ good
+
+    layout-is : s .layout ≡ viewOf x .layout
+    unfolding viewOf
+    layout-is = told .layout good
+
+    pub sees : Sees x (record { layout = s .layout; entries = s .entries; frames = s .frames; end = s .names .end; chunks = s .end })
+    unfolding viewOf
+    sees = record {
+      opens = opens;
+      layout = told .layout good;
+      entries = told .entries good;
+      frames = told .frames good;
+      end = told .names good .end ∙ ap (λ ns. layoutOf x .namelist + length (flat ns)) (sym (names-of x));
+      chunks = told .end good;
+    }
+
+    -- 21
+    pub odd-index : (s .layout .index % 8 ≡ 0 → ⊥) → appendTest x sheet ≡ 21
+    unfolding appendTest
+    odd-index f =
+        first-of (verdict x) _ opens
+        ∙ decides _ 20 _ (left-holds (not (eqb (viewOf x .layout .index % 8) 0)) _ (rw (ne-eqb (viewOf x .layout .index % 8) 0 (λ e. f (ap (λ l. l .index % 8) layout-is ∙ e)))))
+
+    module _ (even : s .layout .index % 8 ≡ 0) where
+      index-even : not (eqb (viewOf x .layout .index % 8) 0) ≡ false
+      index-even = not-of (eqb (viewOf x .layout .index % 8) 0) (eq-eqb _ _ (sym (ap (λ l. l .index % 8) layout-is) ∙ even))
+
+      pub odd-names : (s .layout .namelist % 8 ≡ 0 → ⊥) → appendTest x sheet ≡ 21
+      unfolding appendTest
+      odd-names f =
+          first-of (verdict x) _ opens
+          ∙ decides _ 20 _ (right-decides (not (eqb (viewOf x .layout .index % 8) 0)) _ index-even
+          ∙ rw (ne-eqb (viewOf x .layout .namelist % 8) 0 (λ e. f (ap (λ l. l .namelist % 8) layout-is ∙ e))))
+
+      module _ (even′ : s .layout .namelist % 8 ≡ 0) where
+        names-even : not (eqb (viewOf x .layout .namelist % 8) 0) ≡ false
+        names-even = not-of (eqb (viewOf x .layout .namelist % 8) 0) (eq-eqb _ _ (sym (ap (λ l. l .namelist % 8) layout-is) ∙ even′))
+
+        sheet-next : appendTest x sheet ≡ sheetTest sheet ▹ planTest x sheet
+        unfolding appendTest
+        sheet-next =
+            first-of (verdict x) _ opens
+            ∙ goes-on _ 21 _ (neither-of (not (eqb (viewOf x .layout .index % 8) 0)) (not (eqb (viewOf x .layout .namelist % 8) 0)) index-even names-even)
+
+        -- the sheet's number
+        pub bad-sheet : (n : ℕ) (r : Planning) → n ≡ sheetTest sheet → (n ≡ 0 → ⊥) → r .number ≡ n → Plans x sheet (appendTest x sheet) r
+        bad-sheet n r e f g =
+            let k : (sheetTest sheet ≡ 0 → ⊥) = λ z. f (e ∙ z) in
+            let t : appendTest x sheet ≡ sheetTest sheet = sheet-next ∙ stays (sheetTest sheet) (planTest x sheet) k in
+            record { number = g ∙ e ∙ sym t; plan = λ z. absurd (k (sym t ∙ z)) }
+
+        pub good-sheet : sheetTest sheet ≡ 0 → appendTest x sheet ≡ planTest x sheet
+        good-sheet e = sheet-next ∙ first-of (sheetTest sheet) (planTest x sheet) e

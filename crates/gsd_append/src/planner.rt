@@ -208,8 +208,9 @@ fn plan_names<'a>(
     bodies: &'a [usize; 64],
     count: usize,
 ) -> Planning
-    requires { ⌜ Sees (now image) v × (Spans (now starts) listed (length (now image)) × ((listed ≤ mostNames) × ((namesIn (now image) (now starts) listed ≡ viewOf (now image) .names)
-        × ((sheetTest (now sheet) ≡ 0) × (Located (now sheet) (now names) (now bodies) × (count ≡ rowCount (now sheet))))))) ⌝ }
+    requires { ⌜ Sees (now image) v × Spans (now starts) listed (length (now image)) × (listed ≤ mostNames) × (listed ≡ length (viewOf (now image) .names))
+        × (namesIn (now image) (now starts) listed ≡ viewOf (now image) .names) × (sheetTest (now sheet) ≡ 0) × Located (now sheet) (now names) (now bodies)
+        × (count ≡ rowCount (now sheet)) ⌝ }
     ensures { λ r. ⌜ Plans (now (image .entry)) (now (sheet .entry)) (planTest (now (image .entry)) (now (sheet .entry))) r ⌝ }
 {
     let ids = find_ids(image, starts, listed, sheet, names, bodies, count);

@@ -27,7 +27,7 @@ add-place-names c = omega (arith, block-small (c .before .before .before .before
 
 -- src/planner.rt:140:9
 place-names-requires : tie.Need-place-names-requires
-place-names-requires c κs = (c .before .before .before .before .pre .fewNew, (block-small (c .before .before .before .before .pre) _ (c .before .before .chosen .ensures), (c .before .before .before .before .pre .rows, (c .before .before .before .before .pre .name, c .before .before .before .before .pre .short))))
+place-names-requires c κs = (c .before .before .before .before .pre .fewNew, block-small (c .before .before .before .before .pre) _ (c .before .before .chosen .ensures), c .before .before .before .before .pre .rows, c .before .before .before .before .pre .name, c .before .before .before .before .pre .short)
 
 -- src/planner.rt:147:9
 fill-entries-requires : tie.Need-fill-entries-requires

@@ -1,3 +1,4 @@
+use Rattle.gsd_append.proofs.PlanMatch.{not-opened, odd-index, odd-names, bad-sheet, good-sheet, sees, plans-refused, plans-same}
 use borrow.Author.Needs.{needs}
 use Rattle.gsd_append.proofs.planner.plan_append.Statement.{statement}
 use Rattle.gsd_append.proofs.planner.plan_append.Tie as tie
@@ -18,7 +19,7 @@ refused-requires c κs = search needs
 
 -- src/planner.rt:228:9
 returns : tie.Need-returns
-returns c = ?
+returns c = not-opened _ _ _ _ (c .before .before .survey-of .ensures .number) (c .before .if1 .taken) (c .refused .ensures)
 
 -- src/planner.rt:231:9
 refused-requires-2 : tie.Need-refused-requires-2
@@ -26,7 +27,7 @@ refused-requires-2 c κs = search needs
 
 -- src/planner.rt:231:9
 returns-2 : tie.Need-returns-2
-returns-2 c = ?
+returns-2 c = plans-refused _ _ _ 20 _ (odd-index _ _ _ (c .before .before .before .survey-of .ensures) (c .before .before .if1 .left) (c .before .if2 .taken)) (c .refused2 .ensures)
 
 -- src/planner.rt:234:9
 refused-requires-3 : tie.Need-refused-requires-3
@@ -34,7 +35,7 @@ refused-requires-3 c κs = search needs
 
 -- src/planner.rt:234:9
 returns-3 : tie.Need-returns-3
-returns-3 c = ?
+returns-3 c = plans-refused _ _ _ 20 _ (odd-names _ _ _ (c .before .before .before .before .survey-of .ensures) (c .before .before .before .if1 .left) (c .before .before .if2 .left) (c .before .if3 .taken)) (c .refused3 .ensures)
 
 -- src/planner.rt:236:16
 sheet-rows-requires : tie.Need-sheet-rows-requires
@@ -46,7 +47,7 @@ refused-requires-4 c κs = search needs
 
 -- src/planner.rt:238:9
 returns-4 : tie.Need-returns-4
-returns-4 c = ?
+returns-4 c = bad-sheet _ _ _ (c .before .before .before .before .before .before .survey-of .ensures) (c .before .before .before .before .before .if1 .left) (c .before .before .before .before .if2 .left) (c .before .before .before .if3 .left) _ _ (c .before .before .sheet-rows .ensures .number) (c .before .if4 .taken) (c .refused4 .ensures)
 
 -- src/planner.rt:247:5
 plan-names-requires : tie.Need-plan-names-requires
