@@ -1,35 +1,47 @@
 -- An accepted append, carried out by a plan that matches it: every prefix of the plan's steps leaves what so many of the append's
 -- stores leave, and a turn from the beginning is the append.
-use Prim.Native.Nat.{ℕ, min}
-use mathlib.Core.Path.{_≡_, sym, _∙_, ap}
+use Prim.Native.Nat.{ℕ, zero, suc, _≤_, min}
+use mathlib.Core.Path.{_≡_, refl, sym, _∙_, ap}
 use mathlib.Core.List.{List}
 use native.Mathlib.Omega.{arith}
-use lib.ListN.{length, take}
+use lib.ListN.{length, getD, take}
 use Rattle.gsd_format.proofs.Bytes.{Octets}
 use Rattle.gsd_format.proofs.Refusals.{both}
 use Rattle.gsd_stores.specs.Stores.{after}
 use Rattle.gsd_stores.specs.View.{viewOf}
 use Rattle.gsd_stores.specs.Sheet.{rowsOf}
 use Rattle.gsd_stores.specs.Plan.{planOf}
-use Rattle.gsd_stores.specs.Append.{appendTest, storesFor, appended}
+use Rattle.gsd_stores.specs.Append.{appendTest, storesFor, appendAnswer, appended}
 use Rattle.gsd_stores.proofs.Sheet.{Exact, accepted}
 use Rattle.gsd_stores.proofs.Valid.{Valid, valid, Ready as Accepted, ready}
+use Rattle.gsd_stores.proofs.Limits.{refused-answer, refused-image}
 use Rattle.gsd_stores.proofs.View.{Is}
 use Rattle.gsd_stores.proofs.Shown.{opens-shown}
 use Rattle.gsd_stores.proofs.Moments.{stores-are}
 use Rattle.gsd_append.specs.declared.plan.Plan.{Plan}
 use Rattle.gsd_append.specs.declared.turn.Turned.{Turned}
 use Rattle.gsd_append.specs.Exec.{steps, exec, storesOf}
-use Rattle.gsd_append.specs.Runs.{runsOf, Ready}
+use Rattle.gsd_append.specs.Runs.{none, runsOf, half, Ready}
 use Rattle.gsd_append.specs.Turns.{ahead, Cursor, TurnSays}
 use Rattle.gsd_append.specs.Matches.{Matches}
 use Rattle.gsd_append.proofs.Steps.{steps-rest, exec-after, storesOf-length}
+use Rattle.gsd_append.proofs.Runs.{good-more}
 use Rattle.gsd_append.proofs.StoreList.{stores-listed}
 use Rattle.gsd_append.proofs.GoodRuns.{plan-ready}
 
 accepted-exact : (x sheet : List ℕ) → appendTest x sheet ≡ 0 → Exact sheet
 unfolding appendTest
 accepted-exact x sheet h = accepted sheet (both _ _ (both _ _ (both _ _ h .1) .1) .0) .exact
+
+-- no slice is longer than half
+pub ready-half : (n m : ℕ) (c : Plan) → n ≤ half → m ≤ half → Ready n m c → Ready half half c
+ready-half n m c a b h = record { rows = h .rows; fresh = h .fresh; good = λ i l. good-more n m half half (getD (runsOf c) i none) a b (h .good i l); count = h .count }
+
+-- a refused append
+pub refused-append : (x sheet : List ℕ) (limit k : ℕ) → k ≡ appendTest x sheet → (k ≡ 0 → ⊥)
+    → (record { number = k; done = 0; whole = 0 } ≡ appendAnswer x sheet limit) × (x ≡ appended x sheet limit)
+refused-append x sheet limit zero e f = absurd (f refl)
+refused-append x sheet limit (suc n) e f = (sym (refused-answer x sheet limit n (sym e)), sym (refused-image x sheet limit n (sym e)))
 
 -- the cursor at the beginning
 pub cursor-start : (c : Plan) → Cursor c 0 0
@@ -66,3 +78,11 @@ module _ (x sheet : List ℕ) (ok : appendTest x sheet ≡ 0) (ox : Octets x) (o
       let all : ahead c 0 0 ≡ steps (runsOf c) = sym (steps-rest (runsOf c)) in
       let made : t .made ≡ min limit (length (storesFor x sheet)) = h .made ∙ ap (λ n. min limit n) (ap length all ∙ plan-count) in
       (made, h .walked .image ∙ ap (λ ss. exec sheet x (take (t .made) ss)) all ∙ plan-prefix (t .made) ∙ ap (λ k. after x (take k (storesFor x sheet))) made)
+
+  -- so the append answers as it is defined
+  pub accepted-append : (limit all : ℕ) (t : Turned) (y : List ℕ) → all ≡ length (steps (runsOf c)) → TurnSays sheet x c 0 0 limit t y
+      → (record { number = 0; done = t .made; whole = all } ≡ appendAnswer x sheet limit) × (y ≡ appended x sheet limit)
+  unfolding appendAnswer
+  accepted-append limit all t y a h =
+      let r = turn-appends limit t y h in
+      (λ i. record { number = sym ok i; done = r .0 i; whole = (a ∙ plan-count) i }, r .1)

@@ -41,7 +41,13 @@ pub record Placing (names bodies : List ℕ) (count start : ℕ) (to until : Lis
 
 pub placing-none : (names bodies : List ℕ) (count start : ℕ) (to until : List ℕ) → length to ≡ 64 → length until ≡ 64 → Placing names bodies count start to until start 0
 placing-none names bodies count start to until h g = record {
-  within = omega arith; longTo = h; longUntil = g; placed = filled-none; ended = filled-none; here = omega (arith, offset-none names bodies) }
+  within = omega arith;
+  longTo = h;
+  longUntil = g;
+  placed = filled-none;
+  ended = filled-none;
+  here = omega (arith, offset-none names bodies);
+}
 
 pub placing-more : (names bodies : List ℕ) (count start : ℕ) (to until : List ℕ) (at i : ℕ) → Placing names bodies count start to until at i → count ≤ 64 → i < count →
     Placing names bodies count start (set to i at) (set until i (getD names (i + 1) 0)) (at + (getD names (i + 1) 0 - getD bodies i 0 + 7) / 8 * 8) (i + 1)
@@ -51,7 +57,8 @@ placing-more names bodies count start to until at i h f l = record {
   longUntil = length-set until i (getD names (i + 1) 0) ∙ h .longUntil;
   placed = filled-more (h .placed) (omega (arith, h .longTo)) (h .here);
   ended = filled-more (h .ended) (omega (arith, h .longUntil)) refl;
-  here = omega (arith, h .here, offset-more names bodies i) }
+  here = omega (arith, h .here, offset-more names bodies i);
+}
 
 pub placing-all : (names bodies : List ℕ) (count start : ℕ) (to until : List ℕ) (at i : ℕ) → Placing names bodies count start to until at i → count ≤ i →
     BodiesPlaced names bodies count start (record { to = to; until = until; end = at })
@@ -89,7 +96,15 @@ pub record Naming (names bodies rows : List ℕ) (fresh first : ℕ) (at from un
 pub naming-none : (names bodies rows : List ℕ) (fresh first : ℕ) (at from until : List ℕ) → length at ≡ 64 → length from ≡ 64 → length until ≡ 64 →
     Naming names bodies rows fresh first at from until first 0
 naming-none names bodies rows fresh first at from until h g k = record {
-  within = omega arith; longAt = h; longFrom = g; longUntil = k; placed = filled-none; begun = filled-none; ended = filled-none; here = omega (arith, name-none names bodies rows) }
+  within = omega arith;
+  longAt = h;
+  longFrom = g;
+  longUntil = k;
+  placed = filled-none;
+  begun = filled-none;
+  ended = filled-none;
+  here = omega (arith, name-none names bodies rows);
+}
 
 pub naming-more : (names bodies rows : List ℕ) (fresh first : ℕ) (at from until : List ℕ) (next j : ℕ) → Naming names bodies rows fresh first at from until next j → fresh ≤ 64 → j < fresh →
     Naming names bodies rows fresh first (set at j next) (set from j (getD names (getD rows j 0) 0)) (set until j (getD bodies (getD rows j 0) 0))
@@ -102,7 +117,8 @@ naming-more names bodies rows fresh first at from until next j h f l = record {
   placed = filled-more (h .placed) (omega (arith, h .longAt)) (h .here);
   begun = filled-more (h .begun) (omega (arith, h .longFrom)) refl;
   ended = filled-more (h .ended) (omega (arith, h .longUntil)) refl;
-  here = omega (arith, h .here, name-more names bodies rows j) }
+  here = omega (arith, h .here, name-more names bodies rows j);
+}
 
 pub naming-all : (names bodies rows : List ℕ) (fresh first : ℕ) (at from until : List ℕ) (next j : ℕ) → Naming names bodies rows fresh first at from until next j → fresh ≤ j →
     NamesPlaced names bodies rows fresh first (record { at = at; from = from; until = until })
@@ -130,7 +146,14 @@ pub record Numbering (sheet order to : List ℕ) (count : ℕ) (n meta location 
 
 pub numbering-none : (sheet order to : List ℕ) (count : ℕ) (n meta location : List ℕ) → length n ≡ 64 → length meta ≡ 64 → length location ≡ 64 → Numbering sheet order to count n meta location 0
 numbering-none sheet order to count n meta location h g k = record {
-  within = omega arith; longN = h; longMeta = g; longLocation = k; ns = filled-none; metas = filled-none; locations = filled-none }
+  within = omega arith;
+  longN = h;
+  longMeta = g;
+  longLocation = k;
+  ns = filled-none;
+  metas = filled-none;
+  locations = filled-none;
+}
 
 pub numbering-more : (sheet order to : List ℕ) (count : ℕ) (n meta location : List ℕ) (s a b : ℕ) → Numbering sheet order to count n meta location s → count ≤ 64 → s < count →
     a ≡ le 8 sheet (rowAt (rowOf order s)) → b ≡ metaOf sheet order s →
@@ -142,7 +165,8 @@ numbering-more sheet order to count n meta location s a b h f l p q = record {
   longLocation = length-set location s (getD to (rowOf order s) 0) ∙ h .longLocation;
   ns = filled-more (h .ns) (omega (arith, h .longN)) p;
   metas = filled-more (h .metas) (omega (arith, h .longMeta)) q;
-  locations = filled-more (h .locations) (omega (arith, h .longLocation)) refl }
+  locations = filled-more (h .locations) (omega (arith, h .longLocation)) refl;
+}
 
 pub numbering-all : (sheet order to : List ℕ) (count : ℕ) (n meta location : List ℕ) (s : ℕ) → Numbering sheet order to count n meta location s → count ≤ s →
     EntriesFilled sheet order to count (record { n = n; meta = meta; location = location })

@@ -22,4 +22,5 @@ pub mod Sorting
 pub mod EntryOrder
 pub mod Assembly
 pub mod PlanMatch
+pub mod Demand3
 pub mod RowIds

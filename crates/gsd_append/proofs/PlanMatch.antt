@@ -35,7 +35,9 @@ use Rattle.gsd_stores.proofs.Rows.{bodyOffset, offset-last, new-names, new-few,
 use Rattle.gsd_stores.proofs.Plan.{Planned, EndOfUse, end-of-use, namesAfter, rowEntry, entries-count, positions, grown-enough, doubled-range}
 use Rattle.gsd_stores.proofs.Plan.{planned as plan-is}
 use Rattle.gsd_read.specs.declared.survey.Survey.{Survey}
+use Rattle.gsd_read.specs.NameLists.{namesIn}
 use Rattle.gsd_read.specs.Surveys.{Surveyed}
+use Rattle.gsd_read.proofs.Surveys.{kept-names, many-names as survey-many}
 use Rattle.gsd_append.specs.declared.plan.Heads.{Heads}
 use Rattle.gsd_append.specs.declared.plan.Plan.{Plan}
 use Rattle.gsd_append.specs.declared.sites.Sites.{Sites}
@@ -270,7 +272,7 @@ module _ (x sheet : List ℕ) (s : Seen) (see : Sees x s) (names bodies : List �
             → HeadsMatch v p h
         heads-are h e =
             let f : h ≡ _ = e ∙ λ i. headsOf (clearsOf (see .layout i) (see .entries i) (see .end i)) (nameBlockOf (see .layout i) (see .end i) (sites-are i))
-                (indexBlockOf (see .layout i) (see .entries i) (sites-are i)) in
+            (indexBlockOf (see .layout i) (see .entries i) (sites-are i)) in
             subst (HeadsMatch v p) (sym f) (heads-match v rs)
 
         done : sites .names ≤ greatestLength
@@ -439,6 +441,35 @@ plans-same x sheet k n r e h = rw e h
 pub fresh-small : (ns : List (List ℕ)) (sheet names bodies : List ℕ) (ids : Ids) → Located sheet names bodies → IdsFound ns (rowsOf sheet) ids → ids .fresh ≤ 64
 fresh-small ns sheet names bodies ids h f = omega (arith, f .fresh, new-few (new-names ns (rowsOf sheet)), rows-count sheet, h .few)
 
+-- What the survey of an image that opens tells
+
+module _ (x : List ℕ) (s : Survey) (told : Surveyed x s) (good : s .number ≡ 0) where
+  opens : verdict x ≡ 0
+  opens = sym (told .number) ∙ good
+
+  layout-is : s .layout ≡ viewOf x .layout
+  unfolding viewOf
+  layout-is = told .layout good
+
+  pub sees : Sees x (record { layout = s .layout; entries = s .entries; frames = s .frames; end = s .names .end; chunks = s .end })
+  unfolding viewOf
+  sees = record {
+    opens = opens;
+    layout = told .layout good;
+    entries = told .entries good;
+    frames = told .frames good;
+    end = told .names good .end ∙ ap (λ ns. layoutOf x .namelist + length (flat ns)) (sym (names-of x));
+    chunks = told .end good;
+  }
+
+  pub listed-many : s .names .count ≡ length (viewOf x .names)
+  unfolding viewOf
+  listed-many = survey-many x s told good
+
+  pub listed-are : namesIn x (s .names .starts) (s .names .count) ≡ viewOf x .names
+  unfolding viewOf
+  listed-are = kept-names x s told good
+
 module _ (x sheet : List ℕ) where
   -- 28, then 29
   module _ (ns : List (List ℕ)) (listed : ℕ) (ids : Ids) (many : listed ≡ length (viewOf x .names)) (are : ns ≡ viewOf x .names) (ok : IdsFound ns (rowsOf sheet) ids) where
@@ -465,50 +496,32 @@ module _ (x sheet : List ℕ) where
       record { number = g ∙ e ∙ sym t; plan = λ z. absurd (k (sym t ∙ z)) }
 
   module _ (s : Survey) (told : Surveyed x s) (good : s .number ≡ 0) where
-    opens : verdict x ≡ 0
-    opens = sym (told .number) ∙ good
-
-    layout-is : s .layout ≡ viewOf x .layout
-    unfolding viewOf
-    layout-is = told .layout good
-
-    pub sees : Sees x (record { layout = s .layout; entries = s .entries; frames = s .frames; end = s .names .end; chunks = s .end })
-    unfolding viewOf
-    sees = record {
-      opens = opens;
-      layout = told .layout good;
-      entries = told .entries good;
-      frames = told .frames good;
-      end = told .names good .end ∙ ap (λ ns. layoutOf x .namelist + length (flat ns)) (sym (names-of x));
-      chunks = told .end good;
-    }
-
     -- 21
     pub odd-index : (s .layout .index % 8 ≡ 0 → ⊥) → appendTest x sheet ≡ 21
     unfolding appendTest
     odd-index f =
-        first-of (verdict x) _ opens
-        ∙ decides _ 20 _ (left-holds (not (eqb (viewOf x .layout .index % 8) 0)) _ (rw (ne-eqb (viewOf x .layout .index % 8) 0 (λ e. f (ap (λ l. l .index % 8) layout-is ∙ e)))))
+        first-of (verdict x) _ (opens x s told good)
+        ∙ decides _ 20 _ (left-holds (not (eqb (viewOf x .layout .index % 8) 0)) _ (rw (ne-eqb (viewOf x .layout .index % 8) 0 (λ e. f (ap (λ l. l .index % 8) (layout-is x s told good) ∙ e)))))
 
     module _ (even : s .layout .index % 8 ≡ 0) where
       index-even : not (eqb (viewOf x .layout .index % 8) 0) ≡ false
-      index-even = not-of (eqb (viewOf x .layout .index % 8) 0) (eq-eqb _ _ (sym (ap (λ l. l .index % 8) layout-is) ∙ even))
+      index-even = not-of (eqb (viewOf x .layout .index % 8) 0) (eq-eqb _ _ (sym (ap (λ l. l .index % 8) (layout-is x s told good)) ∙ even))
 
       pub odd-names : (s .layout .namelist % 8 ≡ 0 → ⊥) → appendTest x sheet ≡ 21
       unfolding appendTest
       odd-names f =
-          first-of (verdict x) _ opens
+          first-of (verdict x) _ (opens x s told good)
           ∙ decides _ 20 _ (right-decides (not (eqb (viewOf x .layout .index % 8) 0)) _ index-even
-          ∙ rw (ne-eqb (viewOf x .layout .namelist % 8) 0 (λ e. f (ap (λ l. l .namelist % 8) layout-is ∙ e))))
+          ∙ rw (ne-eqb (viewOf x .layout .namelist % 8) 0 (λ e. f (ap (λ l. l .namelist % 8) (layout-is x s told good) ∙ e))))
 
       module _ (even′ : s .layout .namelist % 8 ≡ 0) where
         names-even : not (eqb (viewOf x .layout .namelist % 8) 0) ≡ false
-        names-even = not-of (eqb (viewOf x .layout .namelist % 8) 0) (eq-eqb _ _ (sym (ap (λ l. l .namelist % 8) layout-is) ∙ even′))
+        names-even = not-of (eqb (viewOf x .layout .namelist % 8) 0) (eq-eqb _ _ (sym (ap (λ l. l .namelist % 8) (layout-is x s told good)) ∙ even′))
 
         sheet-next : appendTest x sheet ≡ sheetTest sheet ▹ planTest x sheet
         unfolding appendTest
         sheet-next =
-            first-of (verdict x) _ opens
+            first-of (verdict x) _ (opens x s told good)
             ∙ goes-on _ 21 _ (neither-of (not (eqb (viewOf x .layout .index % 8) 0)) (not (eqb (viewOf x .layout .namelist % 8) 0)) index-even names-even)
 
         -- the sheet's number

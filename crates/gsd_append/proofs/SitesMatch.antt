@@ -55,4 +55,5 @@ module _ (v : View) (rs : List Row) where
         copyEntries = refl;
         clearSlots = λ i. ifMoved (p .indexMoves) (number (place i) (slots i) 0);
         word8 = refl;
-        word16 = refl }
+        word16 = refl;
+      }

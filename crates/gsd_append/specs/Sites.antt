@@ -27,15 +27,17 @@ sitesOf l end bytes count =
       names = names;
       «index_moves» = ltb (l .slots) count;
       slots = slots;
-      last = cond (ltb (l .slots) count) (names + 32 * slots) names }
+      last = cond (ltb (l .slots) count) (names + 32 * slots) names;
+    }
 
 -- the runs of a block that moves to `to`: so many words of its list, zeros, its header words
 abbrev pub blockOf : Bool → ℕ → ℕ → ℕ → ℕ → ℕ → ℕ → ℕ → Block
 blockOf moves to listed words from until h count = record {
-    copy = ifMoved moves (copied to listed from until);
-    clear = ifMoved moves (number (to + 8 * listed) (words - listed) 0);
-    place = ifMoved moves (number h 1 to);
-    count = ifMoved moves (number (h + 8) 1 count) }
+  copy = ifMoved moves (copied to listed from until);
+  clear = ifMoved moves (number (to + 8 * listed) (words - listed) 0);
+  place = ifMoved moves (number h 1 to);
+  count = ifMoved moves (number (h + 8) 1 count);
+}
 
 -- the runs of step 1: the index slots behind the list, the word that holds the name list's end, the words behind it
 abbrev pub clearsOf : Layout → ℕ → ℕ → Clears
@@ -45,7 +47,8 @@ clearsOf l entries end =
     record {
       index = number (l .index + 32 * entries) (4 * (l .slots - entries)) 0;
       keep = copied first (min 1 words) first end;
-      names = number (first + 8 * min 1 words) (words - 1) 0 }
+      names = number (first + 8 * min 1 words) (words - 1) 0;
+    }
 
 -- the blocks that step 3 and step 5 move
 abbrev pub nameBlockOf : Layout → ℕ → Sites → Block
@@ -56,6 +59,15 @@ indexBlockOf l entries s = blockOf (s .«index_moves») (s .names) (4 * entries)
 
 abbrev pub headsOf : Clears → Block → Block → Heads
 headsOf c names index = record {
-    «clear_index» = c .index; «keep_names» = c .keep; «clear_names» = c .names;
-    «copy_names» = names .copy; «clear_block» = names .clear; word24 = names .place; word32 = names .count;
-    «copy_entries» = index .copy; «clear_slots» = index .clear; word8 = index .place; word16 = index .count }
+  «clear_index» = c .index;
+  «keep_names» = c .keep;
+  «clear_names» = c .names;
+  «copy_names» = names .copy;
+  «clear_block» = names .clear;
+  word24 = names .place;
+  word32 = names .count;
+  «copy_entries» = index .copy;
+  «clear_slots» = index .clear;
+  word8 = index .place;
+  word16 = index .count;
+}

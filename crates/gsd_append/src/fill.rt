@@ -13,7 +13,12 @@ pub struct BodyPlaces {
 }
 
 // Row by row from start on, each padded to a word.
-pub(crate) fn place_bodies(names: &[usize; 65], bodies: &[usize; 64], count: usize, start: usize) -> BodyPlaces
+pub(crate) fn place_bodies(
+    names: &[usize; 65],
+    bodies: &[usize; 64],
+    count: usize,
+    start: usize,
+) -> BodyPlaces
     requires { ⌜ Laid (now names) (now bodies) count × (start < 4611686018427387904) ⌝ }
     ensures { λ r. ⌜ BodiesPlaced (now (names .entry)) (now (bodies .entry)) count start r ⌝ }
 {
@@ -38,7 +43,13 @@ pub struct NamePlaces {
 }
 
 // The new names one behind the other from first on, each with its zero. rows[j] is the j-th one's row.
-pub(crate) fn place_names(names: &[usize; 65], bodies: &[usize; 64], rows: &[usize; 64], fresh: usize, first: usize) -> NamePlaces
+pub(crate) fn place_names(
+    names: &[usize; 65],
+    bodies: &[usize; 64],
+    rows: &[usize; 64],
+    fresh: usize,
+    first: usize,
+) -> NamePlaces
     requires { ⌜ (fresh ≤ 64) × (first < 4611686018427387904) × ((j : ℕ) → j < fresh → getD (now rows) j 0 < 64)
         × ((j : ℕ) → j < fresh → getD (now names) (getD (now rows) j 0) 0 ≤ getD (now bodies) (getD (now rows) j 0) 0)
         × ((j : ℕ) → j < fresh → getD (now bodies) (getD (now rows) j 0) 0 < getD (now names) (getD (now rows) j 0) 0 + 256) ⌝ }
@@ -69,7 +80,12 @@ pub struct EntryNumbers {
 }
 
 // order[s] is 64 times the id, plus the row, of the entry in slot s; to[row] is where that row's data go.
-pub(crate) fn fill_entries(sheet: &[u8], order: &[u64; 64], to: &[usize; 64], count: usize) -> EntryNumbers
+pub(crate) fn fill_entries(
+    sheet: &[u8],
+    order: &[u64; 64],
+    to: &[usize; 64],
+    count: usize,
+) -> EntryNumbers
     requires { ⌜ (count ≤ 64) × (rowAt count ≤ length (now sheet)) × ((s : ℕ) → s < count → getD (now order) s 0 % 64 < count)
         × ((s : ℕ) → s < count → getD (now order) s 0 / 64 < 65536) ⌝ }
     ensures { λ r. ⌜ EntriesFilled (now (sheet .entry)) (now (order .entry)) (now (to .entry)) count r ⌝ }
@@ -82,7 +98,9 @@ pub(crate) fn fill_entries(sheet: &[u8], order: &[u64; 64], to: &[usize; 64], co
         let packed = order[s];
         let row = (packed % 64) as usize;
         n[s] = sheet::row_n(sheet, row);
-        meta[s] = sheet::row_m(sheet, row) + 4294967296 * (packed / 64) + 281474976710656 * gsd_bytes::wide(sheet::row_kind(sheet, row));
+        meta[s] = sheet::row_m(sheet, row)
+            + 4294967296 * (packed / 64)
+            + 281474976710656 * gsd_bytes::wide(sheet::row_kind(sheet, row));
         location[s] = to[row] as u64;
         s += 1;
     }

@@ -137,7 +137,13 @@ fn join<'a>(
 {
     let block = chosen(s.names_move, s.body, v.layout.namelist) as usize;
     let index = chosen(s.index_moves, s.names, v.layout.index) as usize;
-    let found = place_names(names, bodies, rows, fresh, block + (v.end - v.layout.namelist as usize));
+    let found = place_names(
+        names,
+        bodies,
+        rows,
+        fresh,
+        block + (v.end - v.layout.namelist as usize),
+    );
     let body_to = b.to;
     let body_from = *bodies;
     let body_until = b.until;
@@ -186,14 +192,31 @@ fn plan_rows<'a>(
         return refused(29);
     }
     let bytes = v.end - v.layout.namelist as usize + ids.size;
-    let sites = find_sites(v.layout, places.end as u64, bytes as u64, v.entries + count as u64);
+    let sites = find_sites(
+        v.layout,
+        places.end as u64,
+        bytes as u64,
+        v.entries + count as u64,
+    );
     if (len as u64) < sites.last {
         return refused(29);
     }
     let heads = heads_for(v.layout, v.entries as usize, v.end, sites);
     let packed = ids.packed;
     let order = sort(packed, count);
-    let plan = join(sheet, names, bodies, &ids.rows, &order, count, ids.fresh, v, sites, heads, places);
+    let plan = join(
+        sheet,
+        names,
+        bodies,
+        &ids.rows,
+        &order,
+        count,
+        ids.fresh,
+        v,
+        sites,
+        heads,
+        places,
+    );
     Planning { number: 0, plan }
 }
 
@@ -245,5 +268,14 @@ pub(crate) fn plan_append(image: &[u8], sheet: &[u8]) -> Planning
         end: s.names.end,
         chunks: s.end,
     };
-    plan_names(image, sheet, v, &s.names.starts, s.names.count, &rows.names, &rows.bodies, rows.count)
+    plan_names(
+        image,
+        sheet,
+        v,
+        &s.names.starts,
+        s.names.count,
+        &rows.names,
+        &rows.bodies,
+        rows.count,
+    )
 }

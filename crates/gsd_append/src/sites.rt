@@ -10,9 +10,9 @@ ghost use Rattle.gsd_stores.specs.Plan.{grown};
 ghost use Rattle.gsd_append.specs.Runs.{number};
 ghost use Rattle.gsd_append.specs.Matches.{copied};
 ghost use Rattle.gsd_append.specs.Sites.{sitesOf, blockOf, clearsOf, nameBlockOf, indexBlockOf, headsOf};
-use gsd_format::Layout;
 use crate::plan::Heads;
 use crate::run::Run;
+use gsd_format::Layout;
 
 fn greater(a: u64, b: u64) -> u64
     ensures { λ r. ⌜ r ≡ max a b ⌝ }
@@ -126,7 +126,16 @@ pub(crate) fn copy_run(to: usize, words: usize, from: usize, until: usize) -> Ru
 }
 
 // listed: the words that hold the block's list; h: the header word that has its place.
-pub(crate) fn block_runs(moves: bool, to: usize, listed: usize, words: usize, from: usize, until: usize, h: usize, count: u64) -> Block
+pub(crate) fn block_runs(
+    moves: bool,
+    to: usize,
+    listed: usize,
+    words: usize,
+    from: usize,
+    until: usize,
+    h: usize,
+    count: u64,
+) -> Block
     requires { ⌜ (to < 1152921504606846976) × (listed < 1152921504606846976) × (h < 32) × (moves ≡ true → listed ≤ words) ⌝ }
     ensures { λ r. ⌜ r ≡ blockOf moves to listed words from until h count ⌝ }
 {
@@ -173,7 +182,11 @@ pub(crate) fn clear_runs(l: Layout, entries: usize, end: usize) -> Clears
     let first = end / 8 * 8;
     let words = ((l.namelist + 64 * l.segments) as usize - first) / 8;
     let kept = at_most_one(words);
-    let index = number_run(l.index as usize + 32 * entries, 4 * (l.slots as usize - entries), 0);
+    let index = number_run(
+        l.index as usize + 32 * entries,
+        4 * (l.slots as usize - entries),
+        0,
+    );
     let keep = copy_run(first, kept, first, end);
     let names = number_run(first + 8 * kept, less_one(words), 0);
     Clears { index, keep, names }
@@ -184,7 +197,16 @@ pub(crate) fn name_block(l: Layout, end: usize, s: Sites) -> Block
     ensures { λ r. ⌜ r ≡ nameBlockOf l end s ⌝ }
 {
     let listed = (end - l.namelist as usize + 7) / 8;
-    block_runs(s.names_move, s.body as usize, listed, 8 * s.segments as usize, l.namelist as usize, end, 24, s.segments)
+    block_runs(
+        s.names_move,
+        s.body as usize,
+        listed,
+        8 * s.segments as usize,
+        l.namelist as usize,
+        end,
+        24,
+        s.segments,
+    )
 }
 
 pub(crate) fn index_block(l: Layout, entries: usize, s: Sites) -> Block
@@ -192,7 +214,16 @@ pub(crate) fn index_block(l: Layout, entries: usize, s: Sites) -> Block
     ensures { λ r. ⌜ r ≡ indexBlockOf l entries s ⌝ }
 {
     let end = l.index as usize + 32 * entries;
-    block_runs(s.index_moves, s.names as usize, 4 * entries, 4 * s.slots as usize, l.index as usize, end, 8, s.slots)
+    block_runs(
+        s.index_moves,
+        s.names as usize,
+        4 * entries,
+        4 * s.slots as usize,
+        l.index as usize,
+        end,
+        8,
+        s.slots,
+    )
 }
 
 pub(crate) fn join_heads(c: Clears, names: Block, index: Block) -> Heads

@@ -54,8 +54,16 @@ mul-at-2 : tie.Need-mul-at-2 Inv-loop μ-loop
 mul-at-2 c = omega (arith, c .before .before .before .before .pre .0 .small (c .before .before .before .loop .i + 1) (omega arith))
 
 add-at-2 : tie.Need-add-at-2 Inv-loop μ-loop
-add-at-2 c = omega (arith, c .before .before .before .before .pre .0 .name (c .before .before .before .loop .i) (c .before .before .loop-test .taken), c .before .before .before .before .pre .0 .small (c .before .before .before .loop .i + 1) (omega arith), c .before .before .before .before .pre .0 .body (c .before .before .before .loop .i) (c .before .before .loop-test .taken), c .before .before .before .loop .inv .here, c .before .before .before .before .pre .0 .small (c .before .before .before .loop .i) (omega arith),
-      offset-small _ _ _ (c .before .before .before .before .pre .0) (c .before .before .before .loop .i) (omega arith), c .before .before .before .before .pre .0 .few)
+add-at-2 c = omega (
+  arith,
+  c .before .before .before .before .pre .0 .name (c .before .before .before .loop .i) (c .before .before .loop-test .taken),
+  c .before .before .before .before .pre .0 .small (c .before .before .before .loop .i + 1) (omega arith),
+  c .before .before .before .before .pre .0 .body (c .before .before .before .loop .i) (c .before .before .loop-test .taken),
+  c .before .before .before .loop .inv .here,
+  c .before .before .before .before .pre .0 .small (c .before .before .before .loop .i) (omega arith),
+  offset-small _ _ _ (c .before .before .before .before .pre .0) (c .before .before .before .loop .i) (omega arith),
+  c .before .before .before .before .pre .0 .few,
+)
 
 add-i : tie.Need-add-i Inv-loop μ-loop
 add-i c = search needs

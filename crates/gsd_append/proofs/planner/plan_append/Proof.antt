@@ -1,5 +1,7 @@
-use Rattle.gsd_append.proofs.PlanMatch.{not-opened, odd-index, odd-names, bad-sheet, good-sheet, sees, plans-refused, plans-same}
+use Rattle.gsd_append.proofs.PlanMatch.{not-opened, odd-index, odd-names, bad-sheet, good-sheet, sees, listed-many, listed-are, plans-refused, plans-same}
 use borrow.Author.Needs.{needs}
+use mathlib.Core.Path.{sym, _∙_}
+use Rattle.gsd_read.proofs.Surveys.{spans, few-names as survey-few}
 use Rattle.gsd_append.proofs.planner.plan_append.Statement.{statement}
 use Rattle.gsd_append.proofs.planner.plan_append.Tie as tie
 use Rattle.gsd_append.proofs.planner.plan_append.Reads as reads
@@ -51,11 +53,11 @@ returns-4 c = bad-sheet _ _ _ (c .before .before .before .before .before .before
 
 -- src/planner.rt:247:5
 plan-names-requires : tie.Need-plan-names-requires
-plan-names-requires c κs = ?
+plan-names-requires c κs = (sees _ _ (c .before .before .before .before .before .before .before .before .before .before .before .survey-of .ensures) (c .before .before .before .before .before .before .before .before .before .before .if1 .left), spans _ _ (c .before .before .before .before .before .before .before .before .before .before .before .survey-of .ensures) (c .before .before .before .before .before .before .before .before .before .before .if1 .left), survey-few _ _ (c .before .before .before .before .before .before .before .before .before .before .before .survey-of .ensures) (c .before .before .before .before .before .before .before .before .before .before .if1 .left), listed-many _ _ (c .before .before .before .before .before .before .before .before .before .before .before .survey-of .ensures) (c .before .before .before .before .before .before .before .before .before .before .if1 .left), listed-are _ _ (c .before .before .before .before .before .before .before .before .before .before .before .survey-of .ensures) (c .before .before .before .before .before .before .before .before .before .before .if1 .left), (sym (c .before .before .before .before .before .before .before .sheet-rows .ensures .number) ∙ c .before .before .before .before .before .before .if4 .left), c .before .before .before .before .before .before .before .sheet-rows .ensures .rows (sym (c .before .before .before .before .before .before .before .sheet-rows .ensures .number) ∙ c .before .before .before .before .before .before .if4 .left), c .before .before .before .before .before .before .before .sheet-rows .ensures .count (sym (c .before .before .before .before .before .before .before .sheet-rows .ensures .number) ∙ c .before .before .before .before .before .before .if4 .left))
 
 -- src/planner.rt:223:1
 returns-5 : tie.Need-returns-5
-returns-5 c = ?
+returns-5 c = plans-same _ _ _ _ _ (good-sheet _ _ _ (c .before .before .before .before .before .before .before .before .before .before .before .before .survey-of .ensures) (c .before .before .before .before .before .before .before .before .before .before .before .if1 .left) (c .before .before .before .before .before .before .before .before .before .before .if2 .left) (c .before .before .before .before .before .before .before .before .before .if3 .left) (sym (c .before .before .before .before .before .before .before .before .sheet-rows .ensures .number) ∙ c .before .before .before .before .before .before .before .if4 .left)) (c .plan-names .ensures)
 
 pub plan-append-spec : {M : Type 1} → statement M
 plan-append-spec =

@@ -21,8 +21,11 @@ number-run-requires-4 c κs = search needs
 
 returns : tie.Need-returns
 returns c = rw (not-true (c .before .before .before .before .before .args .moves) (c .before .before .before .before .if1 .taken)) (λ i. record {
-      copy = c .before .before .before .number-run .ensures i; clear = c .before .before .number-run2 .ensures i;
-      place = c .before .number-run3 .ensures i; count = c .number-run4 .ensures i })
+  copy = c .before .before .before .number-run .ensures i;
+  clear = c .before .before .number-run2 .ensures i;
+  place = c .before .number-run3 .ensures i;
+  count = c .number-run4 .ensures i;
+})
 
 copy-run-requires : tie.Need-copy-run-requires
 copy-run-requires c κs = search needs
@@ -50,8 +53,11 @@ number-run-requires-7 c κs = search needs
 
 returns-2 : tie.Need-returns-2
 returns-2 c = rw (not-false (c .before .before .before .before .before .args .moves) (c .before .before .before .before .if1 .left)) (λ i. record {
-      copy = c .before .before .before .copy-run .ensures i; clear = c .before .before .number-run5 .ensures i;
-      place = c .before .number-run6 .ensures i; count = c .number-run7 .ensures i })
+  copy = c .before .before .before .copy-run .ensures i;
+  clear = c .before .before .number-run5 .ensures i;
+  place = c .before .number-run6 .ensures i;
+  count = c .number-run7 .ensures i;
+})
 
 pub block-runs-spec : {M : Type 1} → statement M
 block-runs-spec =
