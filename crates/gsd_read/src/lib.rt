@@ -2,9 +2,9 @@
 mod elements;
 mod found;
 mod header;
+mod ids;
 mod index;
 mod names;
-mod refusal;
 mod stretch;
 mod survey;
 
@@ -16,7 +16,7 @@ pub use found::lookup;
 pub use found::name;
 pub use found::name_bytes;
 pub use found::open;
-pub use index::slot;
+pub use ids::name_id;
 pub use names::NameList;
 pub use survey::Survey;
 pub use survey::survey_of;
