@@ -5,6 +5,7 @@ mod header;
 mod ids;
 mod index;
 mod names;
+mod refusal;
 mod stretch;
 mod survey;
 
@@ -17,6 +18,7 @@ pub use found::name;
 pub use found::name_bytes;
 pub use found::open;
 pub use ids::name_id;
+pub use index::slot;
 pub use names::NameList;
 pub use survey::Survey;
 pub use survey::survey_of;

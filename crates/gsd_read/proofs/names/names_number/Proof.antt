@@ -1,8 +1,12 @@
 -- `gsd_read::names::names_number` meets its contract: each number by what is found.
-use mathlib.Core.Path.{sym, _∙_}
-use Rattle.gsd_format.specs.Refusals.{_⇒_}
-use Rattle.gsd_read.proofs.NameLists.{number-open, number-many, number-twins}
+use Prim.Native.Nat.{_*_}
+use mathlib.Core.Path.{_≡_, sym, _∙_}
+use mathlib.Core.Bool.{Bool, true, false}
 use borrow.Author.Needs.{needs}
+use Rattle.gsd_format.specs.Refusals.{_⇒_}
+use Rattle.gsd_format.specs.Opening.{namesTest}
+use Rattle.gsd_format.proofs.Names.{namesAt}
+use Rattle.gsd_read.proofs.NameLists.{number-open, number-many, number-twins}
 use Rattle.gsd_read.proofs.names.names_number.Statement.{statement}
 use Rattle.gsd_read.proofs.names.names_number.Tie as tie
 
@@ -26,21 +30,23 @@ returns-2 c =
 has-twins-requires : tie.Need-has-twins-requires
 has-twins-requires c κs = c .before .before .before .before .before .before .pre .1 .spans (c .if2 .left)
 
+-- with no more than 1,024 names, all closed, the twins decide
+twins-tell : (c : tie.After-has-twins) (b : Bool) → c .has-twins .result ≡ b →
+    let x = c .before .before .before .before .before .before .before .args in
+    (b ⇒ 11) ≡ namesTest (x .image .now) (x .l) (namesAt (x .image .now) (x .l .namelist) (64 * x .l .segments))
+twins-tell c b e =
+    let tests = c .before in
+    let pre = tests .before .before .before .before .before .before .pre in
+    sym (number-twins _ _ _ (pre .1) b (sym (tests .before .before .goes-on .ensures) ∙ tests .before .if1 .left) (tests .if2 .left)
+    (sym (c .has-twins .ensures) ∙ e))
+
 returns-3 : tie.Need-returns-3
 unfolding _⇒_
-returns-3 c =
-    let tests = c .before .before in
-    let pre = tests .before .before .before .before .before .before .pre in
-    sym (number-twins _ _ _ (pre .1) _ (sym (tests .before .before .goes-on .ensures) ∙ tests .before .if1 .left) (tests .if2 .left)
-    (sym (c .before .has-twins .ensures) ∙ c .if3 .taken))
+returns-3 c = twins-tell (c .before) true (c .if3 .taken)
 
 returns-4 : tie.Need-returns-4
 unfolding _⇒_
-returns-4 c =
-    let tests = c .before .before in
-    let pre = tests .before .before .before .before .before .before .pre in
-    sym (number-twins _ _ _ (pre .1) _ (sym (tests .before .before .goes-on .ensures) ∙ tests .before .if1 .left) (tests .if2 .left)
-    (sym (c .before .has-twins .ensures) ∙ c .if3 .left))
+returns-4 c = twins-tell (c .before) false (c .if3 .left)
 
 pub names-number-spec : {M : Type 1} → statement M
 names-number-spec =
