@@ -10,6 +10,6 @@ pub mod StoreList
 pub mod Runs
 pub mod Turns
 pub mod Sorting
-pub mod EntryOrder
 pub mod SheetRows
 pub mod RowIds
+pub mod EntryOrder
