@@ -48,7 +48,7 @@ use Rattle.gsd_append.specs.declared.ids.Ids.{Ids}
 use Rattle.gsd_append.specs.declared.planner.Seen.{Seen}
 use Rattle.gsd_append.specs.declared.planner.Planning.{Planning}
 use Rattle.gsd_append.specs.Runs.{half, planFrom}
-use Rattle.gsd_append.specs.Order.{Sorted, paired}
+use Rattle.gsd_append.specs.Order.{Sorted}
 use Rattle.gsd_append.specs.RowIds.{RowNamed, IdsFound}
 use Rattle.gsd_append.specs.SheetRows.{Located}
 use Rattle.gsd_append.specs.Filling.{Laid, dataOffset, nameOffset, BodiesPlaced, NamesPlaced, EntriesFilled}
@@ -295,14 +295,11 @@ module _ (x sheet : List ℕ) (s : Seen) (see : Sees x s) (names bodies : List �
           id-order : Sorted (ids .packed) (length rs) order
           id-order = rw count-is at sorted
 
-          pairs : (i : ℕ) → i < length rs → getD (ids .packed) i 0 ≡ paired (indexOf (getD rs i noRow .name) (namesAfter v p)) i
-          pairs i l = ask .found .pairs .at i l ∙ ap (λ f. paired (indexOf (getD rs i noRow .name) (v .names ++ f)) i) (sym (plan .fresh))
-
           pair : (k : ℕ) → k < length rs → Pair v rs p plan (ready .distinct) few (getD order k 0)
-          pair = pair-at v rs p plan (ready .distinct) few (ids .packed) order pairs (omega (arith, few)) id-order
+          pair = pair-at v rs p plan (ready .distinct) few (ids .packed) order (ask .found .pairs) (omega (arith, few)) id-order
 
           entry : (k : ℕ) → k < length rs → getD (p .entries) k none ≡ rowEntry v rs p (getD order k 0 % 64)
-          entry = entry-at v rs p plan (ready .distinct) few (ids .packed) order pairs (omega (arith, few)) id-order
+          entry = entry-at v rs p plan (ready .distinct) few (ids .packed) order (ask .found .pairs) (omega (arith, few)) id-order
 
           -- ids are below the number of all names
           id-small : (i : ℕ) → i < length rs → indexOf (getD rs i noRow .name) (namesAfter v p) < 65536
