@@ -1,29 +1,24 @@
 -- What the planner's pieces find, put together: a plan that matches the append.
-use Prim.Native.Nat.{ℕ, zero, suc, _+_, _*_, _-_, _/_, _%_, _≤_, _<_}
-use mathlib.Core.Path.{_≡_, refl, sym, _∙_, ap}
-use mathlib.Core.Bool.{cond}
+use Prim.Native.Nat.{ℕ, zero, suc, _+_, _-_, _≤_, _<_}
+use mathlib.Core.Path.{_≡_, sym, _∙_, ap}
 use mathlib.Core.List.{List, [], _∷_, _++_}
 use native.Mathlib.Numerals.{add-one}
 use native.Mathlib.Omega.{arith}
 use lib.ListN.{length, getD, take}
-use lib.Seq.{take-suc, take-length}
-use Rattle.gsd_format.specs.Bytes.{le, roundUp}
-use Rattle.gsd_format.specs.Names.{flat, indexOf}
-use Rattle.gsd_format.specs.Lookup.{none}
-use Rattle.gsd_format.proofs.Bytes.{Octets}
-use Rattle.gsd_format.proofs.Names.{flat-none, flat-more, flat-sizes}
-use Rattle.gsd_stores.specs.View.{View, viewOf, endOfUse}
+use lib.Seq.{take-suc}
+use Rattle.gsd_format.specs.Bytes.{roundUp}
+use Rattle.gsd_format.specs.Names.{flat}
+use Rattle.gsd_format.proofs.Names.{flat-none, flat-more}
 use Rattle.gsd_stores.specs.Sheet.{rowCount, tableEnd, rowsOf}
-use Rattle.gsd_stores.specs.Plan.{planOf}
 use Rattle.gsd_stores.specs.Demand3.{noRow}
-use Rattle.gsd_stores.proofs.Sheet.{rowAt, nameAt, bodyAt, start-rises, name-length, body-length, rows-count, row-at}
-use Rattle.gsd_stores.proofs.Rows.{bodyOffset, offset-first, offset-next, offset-last}
+use Rattle.gsd_stores.proofs.Sheet.{start-rises, name-length, body-length, rows-count}
+use Rattle.gsd_stores.proofs.Rows.{bodyOffset, offset-first, offset-next}
 use Rattle.gsd_append.specs.Runs.{half}
 use Rattle.gsd_append.specs.SheetRows.{Located}
 use Rattle.gsd_append.specs.RowIds.{RowNamed}
 use Rattle.gsd_append.specs.Filling.{Laid, dataOffset, nameOffset}
 use Rattle.gsd_append.proofs.SheetRows.{name-next, located-room, located-end}
-use Rattle.gsd_append.proofs.Filling.{offset-none, offset-more, name-none, name-more, name-small}
+use Rattle.gsd_append.proofs.Filling.{offset-none, offset-more, name-none, name-more}
 
 -- Where the rows lie
 

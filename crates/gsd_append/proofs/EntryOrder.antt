@@ -1,7 +1,7 @@
 -- The new entries by rising ids: they are those of the rows, in the order of the rows' ids with their rows as numbers.
 use Prim.Native.Nat.{ℕ, zero, suc, _+_, _/_, _%_, _≤_, _<_}
 use mathlib.Core.Path.{_≡_, refl, sym, _∙_, ap, subst}
-use mathlib.Core.List.{List, [], _∷_, map, List·Permᴰ as Perm}
+use mathlib.Core.List.{List, [], _∷_, _++_, map, List·Permᴰ as Perm}
 use mathlib.Core.List.{List·Permᴰ·nil, List·Permᴰ·cons, List·Permᴰ·swap, List·Permᴰ·trans, Permᴰ·symm, Permᴰ·map}
 use native.Mathlib.Omega.{arith}
 use lib.ListN.{getD, length, take, length-map}
@@ -19,7 +19,9 @@ use Rattle.gsd_stores.specs.Demand3.{noRow}
 use Rattle.gsd_stores.proofs.Sorted.{Rising, Differing, sorted-is}
 use Rattle.gsd_stores.proofs.Rows.{new-length, new-at, new-differing, all-has}
 use Rattle.gsd_stores.proofs.Plan.{namesAfter, rowEntries, rowEntry, Planned}
+use Rattle.gsd_append.specs.SheetRows.{Filled}
 use Rattle.gsd_append.specs.Order.{Sorted, paired}
+use Rattle.gsd_append.specs.RowIds.{pairOf}
 
 -- What holds of each element, or of each two, holds in any other order
 
@@ -73,7 +75,7 @@ map-at f (x ∷ l) (suc i) a b h = map-at f l i a b (omega arith)
 -- The rows' ids and rows as numbers, in order
 
 module _ (v : View) (rs : List Row) (p : Plan) (plan : Planned v rs p) (distinct : Distinct (rowNames rs)) (few : length rs ≤ 64) where
-  abbrev idOf : ℕ → ℕ
+  abbrev pub idOf : ℕ → ℕ
   idOf i = indexOf (getD rs i noRow .name) (namesAfter v p)
 
   -- a row and its id
@@ -81,17 +83,21 @@ module _ (v : View) (rs : List Row) (p : Plan) (plan : Planned v rs p) (distinct
     pub row : x % 64 < length rs
     pub id : x / 64 ≡ idOf (x % 64)
 
-  abbrev entryOf : ℕ → Entry
+  abbrev pub entryOf : ℕ → Entry
   entryOf x = rowEntry v rs p (x % 64)
 
-  module _ (xs ys : List ℕ) (pairs : (i : ℕ) → i < length rs → getD xs i 0 ≡ paired (idOf i) i) (long : length rs ≤ length xs) (s : Sorted xs (length rs) ys) where
+  -- xs are the rows with their ids, ys the same in order
+  module _ (xs ys : List ℕ) (pairs : Filled (pairOf (v .names) rs) xs (length rs)) (long : length rs ≤ length xs) (s : Sorted xs (length rs) ys) where
     abbrev n : ℕ
     n = length rs
+
+    pair-is : (i : ℕ) → i < n → getD xs i 0 ≡ paired (idOf i) i
+    pair-is i l = pairs .at i l ∙ ap (λ ns. paired (indexOf (getD rs i noRow .name) (v .names ++ ns)) i) (sym (plan .fresh))
 
     first-pairs : Each Pair (take n xs)
     first-pairs = at-each Pair (take n xs) 0 (λ i l.
         let k : i < n = omega (arith, length-take-le n xs long) in
-        let e : getD (take n xs) i 0 ≡ paired (idOf i) i = getD-take n xs i 0 k ∙ pairs i k in
+        let e : getD (take n xs) i 0 ≡ paired (idOf i) i = getD-take n xs i 0 k ∙ pair-is i k in
         let r : paired (idOf i) i % 64 ≡ i = omega arith in
         rw e (record { row = omega arith; id = rw r (omega arith) }))
 
@@ -107,7 +113,7 @@ module _ (v : View) (rs : List Row) (p : Plan) (plan : Planned v rs p) (distinct
         ext-getD none (map entryOf (take n xs)) (rowEntries v rs p)
         (length-map (take n xs) entryOf ∙ length-take-le n xs long ∙ sym (new-length rs (p .start) (framesOf (v .entries)) (namesAfter v p))) (λ i l.
         let k : i < n = omega (arith, length-map (take n xs) entryOf, length-take-le n xs long) in
-        let r : getD (take n xs) i 0 % 64 ≡ i = omega (arith, getD-take n xs i 0 k, pairs i k) in
+        let r : getD (take n xs) i 0 % 64 ≡ i = omega (arith, getD-take n xs i 0 k, pair-is i k) in
         map-at entryOf (take n xs) i 0 none (omega (arith, length-take-le n xs long))
         ∙ ap (rowEntry v rs p) r ∙ sym (new-at rs (p .start) (framesOf (v .entries)) (namesAfter v p) i k))
 

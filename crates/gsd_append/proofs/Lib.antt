@@ -9,18 +9,19 @@ pub mod Octets
 pub mod RunWords
 pub mod Makes
 pub mod Blocks
-pub mod Growing
-pub mod SitesMatch
--- Laws that the append's proofs cite.
-pub mod SheetRows
-pub mod Filling
 pub mod RowRuns
 pub mod StoreList
 pub mod GoodRuns
 pub mod Appends
+-- the plan that the code makes matches
+pub mod Growing
+pub mod SitesMatch
+pub mod SheetRows
+pub mod Filling
+pub mod RowIds
 pub mod Sorting
 pub mod EntryOrder
 pub mod Assembly
 pub mod PlanMatch
+-- demand 3 about the append
 pub mod Demand3
-pub mod RowIds

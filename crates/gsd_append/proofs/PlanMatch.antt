@@ -1,5 +1,5 @@
 -- What the planner finds is what the append is to do: places, numbers, and a plan that matches.
-use Prim.Native.Nat.{ℕ, zero, suc, _+_, _*_, _-_, _/_, _%_, _≤_, _<_, max}
+use Prim.Native.Nat.{ℕ, suc, _+_, _*_, _-_, _/_, _%_, _≤_, _<_, max}
 use mathlib.Core.Path.{_≡_, refl, sym, _∙_, ap, subst}
 use mathlib.Core.Bool.{Bool, true, false, not, cond}
 use mathlib.Core.List.{List, [], _∷_, _++_}
@@ -10,11 +10,11 @@ use lib.Seq.{take-length}
 use lib.Dec.{ltb, eqb}
 use borrow.Author.Tests.{lt-ltb, le-ltb, eq-eqb, ne-eqb}
 use Rattle.gsd_format.specs.declared.Entry.{Entry}
-use Rattle.gsd_format.specs.Bytes.{le, roundUp}
+use Rattle.gsd_format.specs.Bytes.{roundUp}
 use Rattle.gsd_format.specs.Header.{greatestLength, layoutOf}
 use Rattle.gsd_format.specs.Types.{chunkSize}
 use Rattle.gsd_format.specs.Names.{flat, indexOf, namesOf}
-use Rattle.gsd_format.specs.Entries.{chunksEnd, entriesOf, framesOf}
+use Rattle.gsd_format.specs.Entries.{chunksEnd, entriesOf}
 use Rattle.gsd_format.specs.Lookup.{none}
 use Rattle.gsd_format.specs.Opening.{verdict, mostNames}
 use Rattle.gsd_format.specs.Refusals.{_⇒_, _▹_}
@@ -24,7 +24,7 @@ use Rattle.gsd_format.proofs.Names.{flat-sizes, names-hold, names-of, names-pas
 use Rattle.gsd_format.proofs.Entries.{image-entries}
 use Rattle.gsd_format.proofs.Walk.{chunks-none, chunks-more}
 use Rattle.gsd_format.proofs.Verdict.{Opens, verdict-zero}
-use Rattle.gsd_stores.specs.View.{View, viewOf, endOfUse, indexEnd, namelistEnd, namesEnd}
+use Rattle.gsd_stores.specs.View.{View, viewOf, endOfUse, indexEnd, namelistEnd}
 use Rattle.gsd_stores.specs.Sheet.{Row, rowCount, rowsOf, sheetTest}
 use Rattle.gsd_stores.specs.Plan.{Plan as Defined, planOf, newNames, grown, dataEnd, finalPosition}
 use Rattle.gsd_stores.specs.Steps.{nameBlock, indexBlock}
@@ -32,7 +32,7 @@ use Rattle.gsd_stores.specs.Append.{planTest, appendTest}
 use Rattle.gsd_stores.specs.Demand3.{noRow}
 use Rattle.gsd_stores.proofs.Sheet.{Accepted, accepted, rowFrom, rowAt, nameAt, bodyAt, rows-count, row-at}
 use Rattle.gsd_stores.proofs.Rows.{bodyOffset, offset-last, new-names, new-few, all-has}
-use Rattle.gsd_stores.proofs.Plan.{Planned, EndOfUse, end-of-use, namesAfter, rowEntry, entries-count, positions, grown-enough, doubled-range}
+use Rattle.gsd_stores.proofs.Plan.{Planned, end-of-use, namesAfter, rowEntry, entries-count, positions, grown-enough, doubled-range}
 use Rattle.gsd_stores.proofs.Plan.{planned as plan-is}
 use Rattle.gsd_read.specs.declared.survey.Survey.{Survey}
 use Rattle.gsd_read.specs.NameLists.{namesIn}
@@ -48,18 +48,18 @@ use Rattle.gsd_append.specs.declared.ids.Ids.{Ids}
 use Rattle.gsd_append.specs.declared.planner.Seen.{Seen}
 use Rattle.gsd_append.specs.declared.planner.Planning.{Planning}
 use Rattle.gsd_append.specs.Runs.{half, planFrom}
-use Rattle.gsd_append.specs.Order.{Sorted, paired}
+use Rattle.gsd_append.specs.Order.{Sorted}
 use Rattle.gsd_append.specs.RowIds.{RowNamed, IdsFound}
 use Rattle.gsd_append.specs.SheetRows.{Located}
 use Rattle.gsd_append.specs.Filling.{Laid, dataOffset, nameOffset, BodiesPlaced, NamesPlaced, EntriesFilled}
 use Rattle.gsd_append.specs.Matches.{HeadsMatch, BodyMatch, NameMatch, EntryMatch, Matches}
 use Rattle.gsd_append.specs.Sites.{sitesOf, clearsOf, nameBlockOf, indexBlockOf, headsOf}
-use Rattle.gsd_append.specs.Planning.{planned, Sees, Asked, Sited, Joinable, Joined, Plans, firstName, firstSlot}
+use Rattle.gsd_append.specs.Planning.{planned, Sees, Asked, Sited, Joinable, Joined, Plans, firstName}
 use Rattle.gsd_append.proofs.SheetRows.{located-room}
 use Rattle.gsd_append.proofs.SitesMatch.{plannedSites, allBytes, allEntries, sites-names, sites-last, heads-match}
 use Rattle.gsd_append.proofs.Filling.{name-small}
 use Rattle.gsd_append.proofs.EntryOrder.{Pair, pair-at, entry-at}
-use Rattle.gsd_append.proofs.Assembly.{located-laid, data-offset, data-end, row-within, new-size, name-offset}
+use Rattle.gsd_append.proofs.Assembly.{located-laid, data-offset, data-end, row-within, name-offset}
 
 -- The numbers of an image that opens
 
@@ -295,14 +295,11 @@ module _ (x sheet : List ℕ) (s : Seen) (see : Sees x s) (names bodies : List �
           id-order : Sorted (ids .packed) (length rs) order
           id-order = rw count-is at sorted
 
-          pairs : (i : ℕ) → i < length rs → getD (ids .packed) i 0 ≡ paired (indexOf (getD rs i noRow .name) (namesAfter v p)) i
-          pairs i l = ask .found .pairs .at i l ∙ ap (λ f. paired (indexOf (getD rs i noRow .name) (v .names ++ f)) i) (sym (plan .fresh))
-
           pair : (k : ℕ) → k < length rs → Pair v rs p plan (ready .distinct) few (getD order k 0)
-          pair = pair-at v rs p plan (ready .distinct) few (ids .packed) order pairs (omega (arith, few)) id-order
+          pair = pair-at v rs p plan (ready .distinct) few (ids .packed) order (ask .found .pairs) (omega (arith, few)) id-order
 
           entry : (k : ℕ) → k < length rs → getD (p .entries) k none ≡ rowEntry v rs p (getD order k 0 % 64)
-          entry = entry-at v rs p plan (ready .distinct) few (ids .packed) order pairs (omega (arith, few)) id-order
+          entry = entry-at v rs p plan (ready .distinct) few (ids .packed) order (ask .found .pairs) (omega (arith, few)) id-order
 
           -- ids are below the number of all names
           id-small : (i : ℕ) → i < length rs → indexOf (getD rs i noRow .name) (namesAfter v p) < 65536

@@ -1,6 +1,6 @@
 -- Laws of the rows' ids and new names, found row by row.
 use Prim.Native.Nat.{ℕ, _+_, _-_, _≤_, _<_}
-use mathlib.Core.Path.{_≡_, refl, sym, _∙_, ap}
+use mathlib.Core.Path.{_≡_, sym, _∙_, ap}
 use mathlib.Core.List.{List, [], _∷_, _++_, append-nil}
 use native.Mathlib.Nat.{sub-zero}
 use native.Mathlib.Numerals.{add-one}
@@ -19,7 +19,6 @@ use Rattle.gsd_stores.proofs.Sheet.{rows-count}
 use Rattle.gsd_stores.proofs.Rows.{new-listed, new-unlisted, new-next, new-id, new-is, nothing}
 use Rattle.gsd_read.specs.NameLists.{namesIn}
 use Rattle.gsd_read.proofs.NameLists.{names-all, names-long}
-use Rattle.gsd_append.specs.declared.ids.Ids.{Ids}
 use Rattle.gsd_append.specs.SheetRows.{sheetNames, nameOf, Filled, Located}
 use Rattle.gsd_append.specs.Order.{paired}
 use Rattle.gsd_append.specs.RowIds.{pairOf, RowNamed, IdsFound}
@@ -95,7 +94,8 @@ module _ (names : List (List ℕ)) (rs : List Row) where
           few = omega (arith, g .few);
           longPairs = length-set packed i v ∙ g .longPairs;
           longRows = length-set rows fresh i ∙ g .longRows;
-          pairs = filled-more (g .pairs) (omega (arith, g .longPairs)) (e ∙ ap (λ k. paired k i) (ap (λ k. length names + k) (g .count) ∙ sym (new-id names rs d i l h)));
+          pairs = filled-more (g .pairs) (omega (arith, g .longPairs))
+              (e ∙ ap (λ k. paired k i) (ap (λ k. length names + k) (g .count) ∙ sym (new-id names rs d i l h)));
           count = omega (arith, g .count, ap length more, length-append (newTo i) (nameIn i ∷ []));
           named = below-more (λ j. RowNamed rs (i + 1) (getD (set rows fresh i) j 0) (getD (newTo (i + 1)) j [])) fresh
               (λ j m.
@@ -106,7 +106,10 @@ module _ (names : List (List ℕ)) (rs : List Row) where
                     ∙ sym (ap (λ ns. getD ns j []) more ∙ List·getD-append (newTo i) (nameIn i ∷ []) [] j (omega (arith, g .count)));
               })
               (let put : getD (set rows fresh i) fresh 0 ≡ i = getD-set-same rows fresh i 0 room in
-              record { within = omega arith; named = ap nameIn put ∙ sym (ap (λ ns. getD ns fresh []) more ∙ getD-at (newTo i) (nameIn i) [] [] fresh (sym (g .count))) });
+              record {
+                within = omega arith;
+                named = ap nameIn put ∙ sym (ap (λ ns. getD ns fresh []) more ∙ getD-at (newTo i) (nameIn i) [] [] fresh (sym (g .count)));
+              });
           bytes = omega (arith, g .bytes, ap (λ ns. length (flat ns)) more, flat-more (newTo i) (nameIn i));
         }
 

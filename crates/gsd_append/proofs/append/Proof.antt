@@ -4,11 +4,6 @@ use Rattle.gsd_append.proofs.Appends.{ready-half, refused-append, curso
 use borrow.Author.Needs.{needs}
 use Rattle.gsd_append.proofs.append.Statement.{statement}
 use Rattle.gsd_append.proofs.append.Tie as tie
-use Rattle.gsd_append.proofs.append.Reads as reads
-use Rattle.gsd_append.proofs.append.Lts as lts
-use Rattle.gsd_append.proofs.planner.plan_append.Reads as plan-append-reads
-use Rattle.gsd_append.proofs.turn.turn.Reads as turn-reads
-use Rattle.gsd_append.proofs.turn.whole.Reads as whole-reads
 
 -- src/lib.rt:24:9
 plan-append-requires : tie.Need-plan-append-requires

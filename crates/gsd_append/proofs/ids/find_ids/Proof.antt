@@ -2,7 +2,7 @@
 -- bytes than the sheet has before row i, but for their zeros.
 use Prim.Native.Nat.{_+_, _-_, _≤_}
 use native.Mathlib.Omega.{arith}
-use lib.ListN.{getD}
+use lib.ListN.{getD, length}
 use borrow.Author.Needs.{needs}
 use Rattle.gsd_stores.specs.Sheet.{rowsOf}
 use Rattle.gsd_stores.proofs.Sheet.{rows-count}
@@ -22,6 +22,13 @@ Inv-loop image starts names sheet places bodies count packed₀ rows₀ fresh₀
 
 abbrev μ-loop : tie.MeasureT-loop
 μ-loop image starts names sheet places bodies count packed₀ rows₀ fresh₀ size₀ i₀ packed rows fresh size i = count - i
+
+-- the name of the row at hand lies in the sheet
+room : (c : lts.After-pair2 (id-of-reads.Asked, id-of-reads.Learnt, pair-reads.Asked, pair-reads.Learnt) reads.Pre reads.Post Inv-loop μ-loop) →
+    let x = c .before .before .before .before .before .before .before .before .before .args in
+    let i = c .before .before .before .before .before .before .loop .i in
+    (getD (x .places .now) i 0 ≤ getD (x .bodies .now) i 0) × (getD (x .bodies .now) i 0 ≤ length (x .sheet .now))
+room c = located-room (c .before .before .before .before .before .before .before .before .before .pre .1 .1 .0) _ (omega arith)
 
 loop-holds : tie.Need-loop-holds Inv-loop μ-loop
 loop-holds c = (listing-none _ _ _ _ (search needs) (search needs), omega arith)
@@ -61,8 +68,10 @@ loop-less c = search needs
 loop-again : tie.Need-loop-again Inv-loop μ-loop
 loop-again c =
     let pre = c .before .before .before .before .before .before .before .before .before .pre in
-    let row = c .before .before .before .before .before .before in
-    (row-listed _ _ (count-in _ _ _) (pre .1 .1 .0) (row .loop .inv .0) (omega arith) _ (c .before .before .id-of .ensures) (c .before .if1 .taken) _ (c .pair .ensures), omega (arith, located-room (pre .1 .1 .0) (row .loop .i) (omega arith), located-end (pre .1 .1 .0) (row .loop .i) (omega arith)))
+    let row = c .before .before .before .before .before .before in (
+      row-listed _ _ (count-in _ _ _) (pre .1 .1 .0) (row .loop .inv .0) (omega arith) _ (c .before .before .id-of .ensures) (c .before .if1 .taken) _ (c .pair .ensures),
+      omega (arith, located-room (pre .1 .1 .0) (row .loop .i) (omega arith), located-end (pre .1 .1 .0) (row .loop .i) (omega arith)),
+    )
 
 add-pair : tie.Need-add-pair Inv-loop μ-loop
 add-pair c = search needs
@@ -86,22 +95,13 @@ add-fresh : tie.Need-add-fresh Inv-loop μ-loop
 add-fresh c = search needs
 
 sub-size : tie.Need-sub-size Inv-loop μ-loop
-sub-size c =
-    let pre = c .before .before .before .before .before .before .before .before .before .pre in
-    let row = c .before .before .before .before .before .before in
-    omega (arith, located-room (pre .1 .1 .0) (row .loop .i) (omega arith))
+sub-size c = omega (arith, room c)
 
 add-size : tie.Need-add-size Inv-loop μ-loop
-add-size c =
-    let pre = c .before .before .before .before .before .before .before .before .before .pre in
-    let row = c .before .before .before .before .before .before in
-    omega (arith, located-room (pre .1 .1 .0) (row .loop .i) (omega arith))
+add-size c = omega (arith, room c)
 
 add-size-2 : tie.Need-add-size-2 Inv-loop μ-loop
-add-size-2 c =
-    let pre = c .before .before .before .before .before .before .before .before .before .pre in
-    let row = c .before .before .before .before .before .before in
-    omega (arith, located-room (pre .1 .1 .0) (row .loop .i) (omega arith))
+add-size-2 c = omega (arith, room c)
 
 add-i-2 : tie.Need-add-i-2 Inv-loop μ-loop
 add-i-2 c = search needs
@@ -112,8 +112,11 @@ loop-less-2 c = search needs
 loop-again-2 : tie.Need-loop-again-2 Inv-loop μ-loop
 loop-again-2 c =
     let pre = c .before .before .before .before .before .before .before .before .before .pre in
-    let row = c .before .before .before .before .before .before in
-    (row-new _ _ (count-in _ _ _) (pre .1 .1 .0) (row .loop .inv .0) (omega arith) _ (c .before .before .id-of .ensures) (pre .1 .1 .1 .1) (c .before .if1 .left) _ (c .pair2 .ensures), omega (arith, located-room (pre .1 .1 .0) (row .loop .i) (omega arith), located-end (pre .1 .1 .0) (row .loop .i) (omega arith)))
+    let row = c .before .before .before .before .before .before in (
+      row-new _ _ (count-in _ _ _) (pre .1 .1 .0) (row .loop .inv .0) (omega arith) _ (c .before .before .id-of .ensures) (pre .1 .1 .1 .1) (c .before .if1 .left) _
+          (c .pair2 .ensures),
+      omega (arith, room c, located-end (pre .1 .1 .0) (row .loop .i) (omega arith)),
+    )
 
 returns : tie.Need-returns Inv-loop μ-loop
 returns c = listing-all _ _ _ _ _ _ _ (c .before .loop .inv .0) (omega (arith, rows-count (c .before .before .before .before .args .sheet .now)))

@@ -2,9 +2,6 @@
 use borrow.Author.Needs.{needs}
 use Rattle.gsd_append.proofs.ids.id_of.Statement.{statement}
 use Rattle.gsd_append.proofs.ids.id_of.Tie as tie
-use Rattle.gsd_append.proofs.ids.id_of.Reads as reads
-use Rattle.gsd_append.proofs.ids.id_of.Lts as lts
-use Rattle.gsd_read.proofs.name_id.Reads as name-id-reads
 
 sub-name-id : tie.Need-sub-name-id
 sub-name-id c = search needs

@@ -3,12 +3,6 @@ use mathlib.Core.Path.{_∙_}
 use borrow.Author.Needs.{needs}
 use Rattle.gsd_append.proofs.planner.heads_for.Statement.{statement}
 use Rattle.gsd_append.proofs.planner.heads_for.Tie as tie
-use Rattle.gsd_append.proofs.planner.heads_for.Reads as reads
-use Rattle.gsd_append.proofs.planner.heads_for.Lts as lts
-use Rattle.gsd_append.proofs.sites.clear_runs.Reads as clear-runs-reads
-use Rattle.gsd_append.proofs.sites.index_block.Reads as index-block-reads
-use Rattle.gsd_append.proofs.sites.join_heads.Reads as join-heads-reads
-use Rattle.gsd_append.proofs.sites.name_block.Reads as name-block-reads
 
 -- src/planner.rt:110:9
 clear-runs-requires : tie.Need-clear-runs-requires

@@ -3,11 +3,6 @@ use Rattle.gsd_append.proofs.PlanMatch.{block-small, index-small, joine
 use borrow.Author.Needs.{needs}
 use Rattle.gsd_append.proofs.planner.join.Statement.{statement}
 use Rattle.gsd_append.proofs.planner.join.Tie as tie
-use Rattle.gsd_append.proofs.planner.join.Reads as reads
-use Rattle.gsd_append.proofs.planner.join.Lts as lts
-use Rattle.gsd_append.proofs.fill.fill_entries.Reads as fill-entries-reads
-use Rattle.gsd_append.proofs.fill.place_names.Reads as place-names-reads
-use Rattle.gsd_append.proofs.planner.chosen.Reads as chosen-reads
 
 -- src/planner.rt:138:17
 chosen-requires : tie.Need-chosen-requires

@@ -4,12 +4,6 @@ use mathlib.Core.Path.{sym, _∙_}
 use Rattle.gsd_read.proofs.Surveys.{spans, few-names as survey-few}
 use Rattle.gsd_append.proofs.planner.plan_append.Statement.{statement}
 use Rattle.gsd_append.proofs.planner.plan_append.Tie as tie
-use Rattle.gsd_append.proofs.planner.plan_append.Reads as reads
-use Rattle.gsd_append.proofs.planner.plan_append.Lts as lts
-use Rattle.gsd_append.proofs.planner.plan_names.Reads as plan-names-reads
-use Rattle.gsd_append.proofs.planner.refused.Reads as refused-reads
-use Rattle.gsd_append.proofs.sheet.sheet_rows.Reads as sheet-rows-reads
-use Rattle.gsd_read.proofs.survey_of.Reads as survey-of-reads
 
 -- src/planner.rt:226:13
 survey-of-requires : tie.Need-survey-of-requires

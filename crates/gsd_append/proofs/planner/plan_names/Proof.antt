@@ -4,11 +4,6 @@ use Rattle.gsd_append.proofs.PlanMatch.{fresh-small, many-names, few-na
 use borrow.Author.Needs.{needs}
 use Rattle.gsd_append.proofs.planner.plan_names.Statement.{statement}
 use Rattle.gsd_append.proofs.planner.plan_names.Tie as tie
-use Rattle.gsd_append.proofs.planner.plan_names.Reads as reads
-use Rattle.gsd_append.proofs.planner.plan_names.Lts as lts
-use Rattle.gsd_append.proofs.ids.find_ids.Reads as find-ids-reads
-use Rattle.gsd_append.proofs.planner.plan_rows.Reads as plan-rows-reads
-use Rattle.gsd_append.proofs.planner.refused.Reads as refused-reads
 
 -- src/planner.rt:215:9
 find-ids-requires : tie.Need-find-ids-requires

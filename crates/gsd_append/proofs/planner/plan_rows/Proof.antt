@@ -5,15 +5,6 @@ use Rattle.gsd_append.proofs.PlanMatch.{data-long, sites-long, sites-fi
 use borrow.Author.Needs.{needs}
 use Rattle.gsd_append.proofs.planner.plan_rows.Statement.{statement}
 use Rattle.gsd_append.proofs.planner.plan_rows.Tie as tie
-use Rattle.gsd_append.proofs.planner.plan_rows.Reads as reads
-use Rattle.gsd_append.proofs.planner.plan_rows.Lts as lts
-use Rattle.gsd_append.proofs.fill.place_bodies.Reads as place-bodies-reads
-use Rattle.gsd_append.proofs.order.sort.Reads as sort-reads
-use Rattle.gsd_append.proofs.planner.heads_for.Reads as heads-for-reads
-use Rattle.gsd_append.proofs.planner.join.Reads as join-reads
-use Rattle.gsd_append.proofs.planner.refused.Reads as refused-reads
-use Rattle.gsd_append.proofs.sites.end_of_use.Reads as end-of-use-reads
-use Rattle.gsd_append.proofs.sites.find_sites.Reads as find-sites-reads
 
 -- src/planner.rt:182:17
 end-of-use-requires : tie.Need-end-of-use-requires

@@ -5,9 +5,6 @@ use native.Mathlib.Omega.{arith}
 use borrow.Author.Needs.{needs}
 use Rattle.gsd_read.proofs.ids.has_span.Statement.{statement}
 use Rattle.gsd_read.proofs.ids.has_span.Tie as tie
-use Rattle.gsd_read.proofs.ids.has_span.Reads as reads
-use Rattle.gsd_read.proofs.ids.has_span.Lts as lts
-use Rattle.gsd_read.proofs.names.place.Reads as place-reads
 
 returns : tie.Need-returns
 returns c = (λ e. absurd (true≢false (sym e)), λ e s. omega (arith, s .kept))
