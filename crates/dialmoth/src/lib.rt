@@ -2,6 +2,7 @@
 // 0 for none; its values go to out, which a refusal leaves as it was.
 mod out;
 
+use gsd_append::append;
 use gsd_create::create;
 use gsd_read::chunk_place;
 use gsd_read::element;
@@ -19,7 +20,8 @@ ghost use Rattle.gsd_format.specs.Lookup.{nthEntry, nthName, lookup, chunkPlace
 ghost use Rattle.gsd_format.specs.Elements.{element};
 ghost use Rattle.gsd_format.specs.Create.{createNumber, created};
 ghost use Rattle.gsd_format.specs.Answers.{openingNumber, listedNumber, placeNumber, elementNumber};
-ghost use Rattle.dialmoth.specs.Out.{openingOut, listedOut, placeOut, elementOut};
+ghost use Rattle.gsd_stores.specs.Append.{appendTest, appended};
+ghost use Rattle.dialmoth.specs.Out.{openingOut, listedOut, placeOut, elementOut, appendOut};
 
 // Frames, names, entries.
 #[no_mangle]
@@ -95,4 +97,21 @@ pub extern "C" fn dialmoth_create(
     ensures { λ _. ⌜ now (image .exit) ≡ created (now (image .entry)) (now (application .entry)) (now (schema .entry)) «schema_version» slots segments ⌝ }
 {
     create(image, application, schema, schema_version, slots, segments)
+}
+
+// Stores done, stores of the whole append: 0 and 0 where it is refused, which changes no byte of the image.
+#[no_mangle]
+pub extern "C" fn dialmoth_append(
+    image: &mut [u8],
+    sheet: &[u8],
+    limit: u64,
+    out: &mut [u64; 2],
+) -> u64
+    ensures { λ r. ⌜ r ≡ appendTest (now (image .entry)) (now (sheet .entry)) ⌝ }
+    ensures { λ _. ⌜ now (image .exit) ≡ appended (now (image .entry)) (now (sheet .entry)) limit ⌝ }
+    ensures { λ _. ⌜ now (out .exit) ≡ appendOut (now (image .entry)) (now (sheet .entry)) limit ⌝ }
+{
+    let answer = append(image, sheet, limit);
+    *out = [answer.done, answer.whole];
+    answer.number
 }

@@ -7,8 +7,8 @@ use native.Mathlib.Nat.{add-zero, zero-add, add-assoc, suc-add, pow-suc, pow-suc
 use native.Mathlib.Numerals.{add-one}
 use native.Mathlib.Decide.{ℕ-discrete, decLt}
 use native.Mathlib.Omega.{arith}
-use lib.ListN.{length, getD, set, take, drop, length-set, length-take, length-drop}
-use lib.Seq.{getD-set-same, getD-set-other, getD-take, getD-drop, ext-getD, length-take-le, take-suc, take-add, drop-drop, sets, sets-eq}
+use lib.ListN.{length, getD, set, take, drop, length-set, length-append, length-take, length-drop}
+use lib.Seq.{getD-set-same, getD-set-other, getD-take, getD-drop, ext-getD, length-take-le, take-suc, take-add, take-at, drop-drop, sets, sets-eq}
 use lib.Dec.{eqb}
 use borrow.Author.Tests.{eq-eqb, ne-eqb, ltb-false, le-ltb}
 use Rattle.gsd_format.specs.Bytes.{le, leBytes, part, same, zeroIn, stored, meets}
@@ -327,6 +327,12 @@ stored-paste s i bs h = as-sets s i bs ∙ sets-eq bs s i h
     as-sets : (s : List ℕ) (i : ℕ) (bs : List ℕ) → stored s i bs ≡ sets s i bs
     as-sets s i [] = refl
     as-sets s i (b ∷ bs) = rw add-one (as-sets (set s i b) (suc i) bs)
+
+-- what stands before the place k behind a stored text
+pub stored-front : (s : List ℕ) (i : ℕ) (bs t : List ℕ) (k : ℕ) → t ≡ stored s i bs → k ≡ i + length bs → i + length bs ≤ length s → take k t ≡ take i s ++ bs
+stored-front s i bs t k e f h =
+    let n : length (take i s ++ bs) ≡ i + length bs = length-append (take i s) bs ∙ ap (λ m. m + length bs) (length-take-le i s (omega arith)) in
+    rw (f, e, stored-paste s i bs h) (take-at (take i s ++ bs) (drop (i + length bs) s) (i + length bs) n)
 
 -- a word that is stored reads back
 pub stored-back : (s : List ℕ) (i n w : ℕ) → i + n ≤ length s → w < 256 ^ n → le n (stored s i (leBytes n w)) i ≡ w

@@ -10,5 +10,6 @@ pub mod Entries
 pub mod Walk
 pub mod Verdict
 pub mod Lookup
+pub mod Listing
 pub mod Create
 pub mod Elements

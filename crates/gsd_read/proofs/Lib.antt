@@ -6,3 +6,4 @@ pub mod Floats
 pub mod Signed
 pub mod Surveys
 pub mod Lookups
+pub mod Slots

@@ -3,3 +3,4 @@ pub mod Index
 pub mod NameLists
 pub mod Surveys
 pub mod Lookups
+pub mod Slots

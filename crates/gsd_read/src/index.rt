@@ -16,8 +16,10 @@ ghost use Rattle.gsd_format.specs.Types.{sizeOf, chunkSize};
 ghost use Rattle.gsd_format.specs.Header.{greatestLength};
 ghost use Rattle.gsd_format.specs.Entries.{entryAt, entriesAt, key};
 ghost use Rattle.gsd_format.specs.Opening.{follows, entryTest};
+ghost use Rattle.gsd_format.specs.Lookup.{none};
 ghost use Rattle.gsd_format.proofs.Verdict.{Blocks};
 ghost use Rattle.gsd_read.specs.Index.{Capped, fieldsTest, roomTest, Walks};
+ghost use Rattle.gsd_read.specs.Slots.{slotOf};
 
 // What the walk over the entries finds: a refusal's number or 0, and where that is 0 the entries, the frames and where
 // the last of the chunks ends.
@@ -41,6 +43,35 @@ pub fn entry_at(image: &[u8], at: usize) -> Entry
         kind: image[at + 30],
         flags: image[at + 31],
     }
+}
+
+// What stands in no slot.
+fn empty() -> Entry
+    ensures { λ r. ⌜ r ≡ none ⌝ }
+{
+    Entry {
+        frame: 0,
+        n: 0,
+        location: 0,
+        m: 0,
+        id: 0,
+        kind: 0,
+        flags: 0,
+    }
+}
+
+// A slot of a block at index, for a walk over the entries of an image that was opened before.
+pub fn slot(image: &[u8], index: u64, i: u64) -> Entry
+    ensures { λ r. ⌜ r ≡ slotOf (now (image .entry)) index i ⌝ }
+{
+    let len = image.len() as u64;
+    if len < index {
+        return empty();
+    }
+    if (len - index) / 32 <= i {
+        return empty();
+    }
+    entry_at(image, (index + 32 * i) as usize)
 }
 
 // The bytes of a chunk, cut above the longest slice so that no product wraps.
