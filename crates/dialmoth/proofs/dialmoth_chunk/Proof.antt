@@ -12,7 +12,7 @@ put-part-requires : tie.Need-put-part-requires
 put-part-requires c κs = λ e. chunk-number _ _ _ (sym (c .before .chunk-place .ensures) ∙ e)
 
 returns : tie.Need-returns
-returns c = (cc, cc)
+returns c = rw (c .before .before .chunk-place .ensures) at (c .put-part .ensures)
 
 pub dialmoth-chunk-spec : {M : Type 1} → statement M
 dialmoth-chunk-spec = tie.close (tie.spec chunk-place-requires put-part-requires returns)

@@ -12,7 +12,7 @@ put-element-requires : tie.Need-put-element-requires
 put-element-requires c κs = λ e. element-number _ _ _ _ (sym (c .before .element .ensures) ∙ e)
 
 returns : tie.Need-returns
-returns c = (cc, cc)
+returns c = rw (c .before .before .element .ensures) at (c .put-element .ensures)
 
 pub dialmoth-element-spec : {M : Type 1} → statement M
 dialmoth-element-spec = tie.close (tie.spec element-requires put-element-requires returns)

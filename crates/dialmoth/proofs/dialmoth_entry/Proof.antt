@@ -12,7 +12,7 @@ put-entry-requires : tie.Need-put-entry-requires
 put-entry-requires c κs = λ e. entry-number _ _ (sym (c .before .entry .ensures) ∙ e)
 
 returns : tie.Need-returns
-returns c = (cc, cc)
+returns c = rw (c .before .before .entry .ensures) at (c .put-entry .ensures)
 
 pub dialmoth-entry-spec : {M : Type 1} → statement M
 dialmoth-entry-spec = tie.close (tie.spec entry-requires put-entry-requires returns)

@@ -12,7 +12,7 @@ put-entry-requires : tie.Need-put-entry-requires
 put-entry-requires c κs = λ e. lookup-number _ _ _ (sym (c .before .lookup .ensures) ∙ e)
 
 returns : tie.Need-returns
-returns c = (cc, cc)
+returns c = rw (c .before .before .lookup .ensures) at (c .put-entry .ensures)
 
 pub dialmoth-lookup-spec : {M : Type 1} → statement M
 dialmoth-lookup-spec = tie.close (tie.spec lookup-requires put-entry-requires returns)

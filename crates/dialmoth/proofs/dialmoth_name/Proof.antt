@@ -12,7 +12,7 @@ put-part-requires : tie.Need-put-part-requires
 put-part-requires c κs = λ e. name-number _ _ (sym (c .before .name .ensures) ∙ e)
 
 returns : tie.Need-returns
-returns c = (cc, cc)
+returns c = rw (c .before .before .name .ensures) at (c .put-part .ensures)
 
 pub dialmoth-name-spec : {M : Type 1} → statement M
 dialmoth-name-spec = tie.close (tie.spec name-requires put-part-requires returns)

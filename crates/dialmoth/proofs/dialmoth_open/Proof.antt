@@ -12,7 +12,7 @@ put-counts-requires : tie.Need-put-counts-requires
 put-counts-requires c κs = λ e. opening-number _ (sym (c .before .«open» .ensures) ∙ e)
 
 returns : tie.Need-returns
-returns c = (cc, cc)
+returns c = rw (c .before .before .«open» .ensures) at (c .put-counts .ensures)
 
 pub dialmoth-open-spec : {M : Type 1} → statement M
 dialmoth-open-spec = tie.close (tie.spec open-requires put-counts-requires returns)
