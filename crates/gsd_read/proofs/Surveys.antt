@@ -129,11 +129,14 @@ module _ (img : List ℕ) (s : Survey) (told : Surveyed img s) (good : s .number
   unfolding namesOf
   many-names = many-parts ∙ sym (length-map (nameParts img) (bytesOf img))
 
-  few-names : s .names .count ≤ mostNames
+  pub few-names : s .names .count ≤ mostNames
   few-names = omega (arith, many-names, names-pass img (layoutOf img) (namesOf img) (verdict-zero img .0 opens .names) .1)
 
   pub spans : Spans (s .names .starts) (s .names .count) (length img)
   spans = listed .spans few-names
+
+  pub kept-names : namesIn img (s .names .starts) (s .names .count) ≡ namesOf img
+  kept-names = found-names img _ _ (s .names) listed few-names ∙ sym (names-of img)
 
   pub opened : opening img ≡ Opening.Open (record { frames = s .frames; names = s .names .count; entries = s .entries })
   unfolding countsOf
@@ -171,7 +174,7 @@ module _ (img : List ℕ) (s : Survey) (told : Surveyed img s) (good : s .number
 
     module _ (id : ℕ) (sought : id ≡ indexOf name (namesIn img (s .names .starts) (s .names .count))) (there : frame < s .frames) where
       place : indexOf name (namesOf img) ≡ id
-      place = ap (indexOf name) (sym (found-names img _ _ (s .names) listed few-names ∙ sym (names-of img))) ∙ sym sought
+      place = ap (indexOf name) (sym kept-names) ∙ sym sought
 
       pub not-listed : s .names .count ≤ id → lookup img frame name ≡ Listed.Refused 41
       not-listed h =

@@ -2,6 +2,7 @@
 mod elements;
 mod found;
 mod header;
+mod ids;
 mod index;
 mod names;
 mod refusal;
@@ -16,6 +17,7 @@ pub use found::lookup;
 pub use found::name;
 pub use found::name_bytes;
 pub use found::open;
+pub use ids::name_id;
 pub use index::slot;
 pub use names::NameList;
 pub use survey::Survey;

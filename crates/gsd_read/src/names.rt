@@ -62,7 +62,7 @@ pub fn name_list(image: &[u8], at: usize, n: usize) -> NameList
     }
 }
 
-fn place(x: u32) -> usize
+pub fn place(x: u32) -> usize
     ensures { λ r. ⌜ r ≡ x ⌝ }
 {
     x as usize
@@ -81,7 +81,7 @@ pub fn name_part(starts: &[u32; 1025], i: usize) -> Part
     }
 }
 
-fn name_bytes<'a, 'b>(image: &'a [u8], starts: &'b [u32; 1025], i: usize) -> &'a [u8]
+pub fn name_bytes<'a, 'b>(image: &'a [u8], starts: &'b [u32; 1025], i: usize) -> &'a [u8]
     requires { ⌜ Span (now starts) i (length (now image)) ⌝ }
     ensures { λ r. ⌜ now r ≡ bytesOf (now (image .entry)) (partAt (now (starts .entry)) i) ⌝ }
 {
@@ -91,7 +91,7 @@ fn name_bytes<'a, 'b>(image: &'a [u8], starts: &'b [u32; 1025], i: usize) -> &'a
 }
 
 // Names often have their front in common, so the last byte is looked at first.
-fn same_name(a: &[u8], b: &[u8]) -> bool
+pub fn same_name(a: &[u8], b: &[u8]) -> bool
     ensures { λ r. ⌜ r ≡ same (now (a .entry)) (now (b .entry)) ⌝ }
 {
     let n = a.len();

@@ -45,25 +45,25 @@ AllShow x₀ W v p =
     (u : View) (j : ℕ) → u .layout .len ≡ v .layout .len → u .entries ≡ v .entries → u .names ≡ v .names ++ take j (p .fresh) → Shows x₀ W u
 
 module _ {v : View} {p : Plan} (g : Good v p) where
-  names-fit : namesDone p ≤ v .layout .len
+  pub names-fit : namesDone p ≤ v .layout .len
   names-fit = omega (arith, cond-more (p .indexMoves) (namesDone p) (32 * p .slots))
 
-  data-fits : dataEnd p ≤ v .layout .len
+  pub data-fits : dataEnd p ≤ v .layout .len
   data-fits = omega (arith, cond-more (p .namesMove) (dataEnd p) (64 * p .segments), names-fit)
 
-  room-before : Room v (p .start) (length (p .body)) (dataEnd p)
+  pub room-before : Room v (p .start) (length (p .body)) (dataEnd p)
   room-before = room-data (length (p .body)) (g .room)
 
-  room-roomy : Room (roomy v p) (p .start) (length (p .body)) (namesDone p)
+  pub room-roomy : Room (roomy v p) (p .start) (length (p .body)) (namesDone p)
   room-roomy = room-step theNames (p .namesMove) (dataEnd p) (p .segments) room-before
 
-  room-names : Room (named v p) (p .start) (length (p .body)) (namesDone p)
+  pub room-names : Room (named v p) (p .start) (length (p .body)) (namesDone p)
   room-names = room-named (v .names ++ p .fresh) room-roomy
 
   room-ready : Room (ready v p) (p .start) (length (p .body)) (finalPosition p)
   room-ready = room-step theIndex (p .indexMoves) (namesDone p) (p .slots) room-names
 
-  block-even : nameBlock v p % 8 ≡ 0
+  pub block-even : nameBlock v p % 8 ≡ 0
   block-even = cond-even (p .namesMove) (dataEnd p) (v .layout .namelist) (omega arith) (g .namelistEven)
 
   pub whole-append : {x₀ : List ℕ} {W : List ℕ → Type 0} → Is x₀ v → AllShow x₀ W v p →

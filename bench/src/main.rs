@@ -1,0 +1,214 @@
+//! Times the library beside the plain Rust implementation, in one run on one machine.
+//!
+//!   bench images FOLDER   writes the images that the real GSD library is timed on
+//!   bench table [FILE]    prints a table; FILE has the real library's times, lines "key µs"
+
+mod work;
+
+use differential::library::{Library, Reference};
+use differential::reference;
+use std::collections::HashMap;
+use std::hint::black_box;
+use std::path::Path;
+use std::time::{Duration, Instant};
+use std::{env, fs, process};
+use work::{Day, Large};
+
+/// So long for each row, both sides in turn; three times as long for work in parts.
+const TIME: Duration = Duration::from_millis(2500);
+
+/// What one side does, given the number of the part.
+type Side<'a, S> = &'a mut dyn FnMut(&mut S, usize);
+
+/// The best time of each side. Work in parts has the sum of each part's best: no machine leaves
+/// work of many milliseconds alone. `prepare` goes before the first part and is not timed. Each
+/// side goes first as often as the others.
+fn best<S>(
+    state: &mut S,
+    mut prepare: impl FnMut(&mut S),
+    parts: usize,
+    sides: &mut [Side<S>],
+) -> Vec<Duration> {
+    let mut best = vec![vec![Duration::MAX; parts]; sides.len()];
+    // Calls that are short beside the clock's own time are timed many at a time.
+    let mut calls = 1;
+    let time = if parts > 1 { 3 * TIME } else { TIME };
+    let start = Instant::now();
+    for round in 0.. {
+        for turn in 0..sides.len() {
+            let side = (round + turn) % sides.len();
+            prepare(state);
+            for part in 0..parts {
+                let begin = Instant::now();
+                for _ in 0..calls {
+                    sides[side](state, part);
+                }
+                let time = begin.elapsed();
+                if parts == 1 && calls < 1000 && time < Duration::from_micros(20) {
+                    calls *= 2;
+                    best.iter_mut().for_each(|best| best.fill(Duration::MAX));
+                } else {
+                    best[side][part] = best[side][part].min(time / calls);
+                }
+            }
+        }
+        let all = best.iter().flatten().all(|&time| time < Duration::MAX);
+        if all && start.elapsed() > time {
+            break;
+        }
+    }
+    best.iter().map(|parts| parts.iter().sum()).collect()
+}
+
+fn time_text(time: Duration) -> String {
+    let nanos = time.as_nanos() as f64;
+    match nanos {
+        n if n < 1e3 => format!("{n:.0} ns"),
+        n if n < 1e6 => format!("{:.2} µs", n / 1e3),
+        n => format!("{:.2} ms", n / 1e6),
+    }
+}
+
+struct Table<'l> {
+    library: &'l dyn Library,
+    /// The real library's times in microseconds.
+    real: HashMap<String, f64>,
+}
+
+impl Table<'_> {
+    fn row(&self, what: &str, library: Duration, other: Duration, key: &str) {
+        let ratio = library.as_secs_f64() / other.as_secs_f64();
+        let real = match self.real.get(key) {
+            Some(micros) => time_text(Duration::from_secs_f64(micros / 1e6)),
+            None => "-".into(),
+        };
+        let (library, other) = (time_text(library), time_text(other));
+        println!("| {what} | {library} | {other} | {ratio:.2} | {real} |");
+    }
+
+    /// The same work for both sides, as a row; answers the library's time.
+    fn both<S>(
+        &self,
+        what: &str,
+        key: &str,
+        state: &mut S,
+        prepare: impl FnMut(&mut S),
+        parts: usize,
+        work: impl Fn(&mut S, &dyn Library, usize),
+    ) -> Duration {
+        let library = &mut |state: &mut S, part| work(state, self.library, part);
+        let plain = &mut |state: &mut S, part| work(state, &Reference, part);
+        let times = best(state, prepare, parts, &mut [library, plain]);
+        self.row(what, times[0], times[1], key);
+        times[0]
+    }
+
+    /// A reading call.
+    fn reading(&self, what: &str, key: &str, call: impl Fn(&dyn Library)) -> Duration {
+        self.both(what, key, &mut (), |_| {}, 1, |_, library, _| call(library))
+    }
+}
+
+#[cfg(linked)]
+fn library() -> (&'static dyn Library, &'static str) {
+    (&differential::library::Linked, "libdialmoth.a")
+}
+
+#[cfg(not(linked))]
+fn library() -> (&'static dyn Library, &'static str) {
+    (&Reference, "no libdialmoth.a: the plain Rust implementation stands in for it")
+}
+
+fn open(library: &dyn Library, image: &[u8]) {
+    let mut out = [0; 3];
+    assert_eq!(library.open(black_box(image), &mut out), 0);
+    black_box(out);
+}
+
+fn lookup(library: &dyn Library, image: &[u8], frame: u64) {
+    let mut out = [0; 7];
+    assert_eq!(library.lookup(black_box(image), frame, b"heater", &mut out), 0);
+    black_box(out);
+}
+
+fn element(library: &dyn Library, image: &[u8], frame: u64) {
+    let mut out = [0; 2];
+    assert_eq!(library.element(black_box(image), frame, b"probe", 2, &mut out), 0);
+    black_box(out);
+}
+
+fn table(real: HashMap<String, f64>) {
+    let (library, title) = library();
+    let gsd = if real.is_empty() { "real GSD" } else { "gsd.fl" };
+    println!("Library: {title}. Best times of many, both sides in turn.\n");
+    println!("| | library | plain Rust | ratio | {gsd} |");
+    println!("|---|---|---|---|---|");
+    let table = Table { library, real };
+
+    let month = work::month();
+    table.reading("open, 40,000 entries, 16 names", "open_month", |l| open(l, &month));
+
+    let names = work::names();
+    let pairs = table.reading("open, 1,024 names", "open_names", |l| open(l, &names));
+    let hashed = &mut |_: &mut (), _| {
+        black_box(reference::open_with_table(black_box(&names)).unwrap());
+    };
+    let times = best(&mut (), |_| {}, 1, &mut [hashed]);
+    table.row("open, 1,024 names, beside a hash table for the pairs", pairs, times[0], "");
+
+    let (small, mut day) = (work::small(), Day::new());
+    table.reading("lookup, 24 entries", "", |l| lookup(l, &small, 4));
+    table.reading("lookup, 4,320 entries", "", |l| lookup(l, &day.image, 700));
+    table.reading("element, 4,320 entries", "", |l| element(l, &day.image, 700));
+    let what = "all 4,320 chunks of a day";
+    table.both(what, "read_day", &mut day, |_| {}, work::FRAMES, |day, l, n| day.read(l, n));
+    let what = "append 1,440 frames of 3 chunks in turn";
+    table
+        .both(what, "append_day", &mut day, Day::clear, work::FRAMES, |day, l, n| day.append(l, n));
+
+    let mut large = Large::new();
+    let sides: &mut [Side<Large>] = &mut [
+        &mut |large, _| large.append(library),
+        &mut |large, _| large.append(&Reference),
+        &mut |large, _| large.copy(),
+    ];
+    let times = best(&mut large, Large::restore, 1, sides);
+    table.row("append one chunk of 1 MiB", times[0], times[1], "append_large");
+    table.row("append one chunk of 1 MiB, beside memcpy", times[0], times[2], "");
+
+    println!();
+    println!("Every call opens its image first: a lookup among 4,320 entries reads them all.");
+    println!("A day's time is the sum of each frame's best; its appends begin with create.");
+    println!(
+        "Buffers: reading calls find image and caches warm. The day's image is cleared before"
+    );
+    println!("each run of 1,440 appends, untimed. The 1 MiB chunk goes to memory written before");
+    println!("and not cleared; header and blocks are restored, untimed.");
+    if !table.real.is_empty() {
+        println!("gsd.fl works on files, from Python, and writes them by the system's calls.");
+    }
+}
+
+fn main() {
+    let words: Vec<String> = env::args().skip(1).collect();
+    let words: Vec<&str> = words.iter().map(String::as_str).collect();
+    match words[..] {
+        ["images", folder] => {
+            let images =
+                [("month", work::month()), ("names", work::names()), ("day", Day::new().image)];
+            for (name, image) in images {
+                fs::write(Path::new(folder).join(format!("{name}.gsd")), image).unwrap();
+            }
+        }
+        ["table"] => table(HashMap::new()),
+        ["table", file] => {
+            let text = fs::read_to_string(file).unwrap();
+            let times = text.lines().filter_map(|line| line.split_once(' '));
+            table(times.map(|(key, time)| (key.into(), time.parse().unwrap())).collect());
+        }
+        _ => {
+            eprintln!("usage: bench images FOLDER | bench table [FILE]");
+            process::exit(2);
+        }
+    }
+}

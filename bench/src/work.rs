@@ -1,0 +1,152 @@
+//! What is timed: a month's index, many names, a day of frames, one large chunk.
+
+use differential::images::{blank, put_names, put_slots, sheet, Row, Slot};
+use differential::library::{Create, Library, Reference};
+use std::hint::black_box;
+
+pub const FRAMES: usize = 1440;
+
+fn listed(image: &mut [u8], at: usize, names: &[String]) {
+    put_names(image, at, names.iter().map(String::as_bytes));
+}
+
+/// 40,000 entries: 2,500 frames of 16 names.
+pub fn month() -> Vec<u8> {
+    let names: Vec<_> = (0..16).map(|n| format!("probe/{n:02}/reading")).collect();
+    let (slots, segments) = (40_000, 8);
+    let data = 256 + 32 * slots + 64 * segments;
+    let mut image =
+        blank(data + 8 * slots, 256, slots as u64, (data - 64 * segments) as u64, segments as u64);
+    listed(&mut image, data - 64 * segments, &names);
+    let entries: Vec<_> = (0..slots)
+        .map(|n| Slot::bytes(n as u64 / 16, n as u16 % 16, (data + 8 * n) as u64, 8))
+        .collect();
+    put_slots(&mut image, 256, &entries);
+    image
+}
+
+/// 1,024 names of one length that begin alike, and one frame.
+pub fn names() -> Vec<u8> {
+    let names: Vec<_> = (0..1024).map(|n| format!("cabinet/reading {n:04}")).collect();
+    let segments = (21 * 1024_usize).div_ceil(64);
+    let data = 256 + 32 * 4 + 64 * segments;
+    let mut image = blank(data + 64, 256, 4, 384, segments as u64);
+    listed(&mut image, 384, &names);
+    put_slots(&mut image, 256, &[Slot::bytes(0, 1000, data as u64, 8)]);
+    image
+}
+
+/// 8 frames of 3 chunks.
+pub fn small() -> Vec<u8> {
+    let mut image = vec![0; 4096];
+    create(&Reference, &mut image);
+    for _ in 0..8 {
+        append(&Reference, &mut image, &frame(0));
+    }
+    image
+}
+
+fn create(library: &dyn Library, image: &mut [u8]) {
+    let request = Create {
+        application: b"regulator",
+        schema: b"night",
+        schema_version: 0,
+        slots: 0,
+        segments: 0,
+    };
+    assert_eq!(library.create(image, request), 0);
+}
+
+fn append(library: &dyn Library, image: &mut [u8], sheet: &[u8]) {
+    let mut out = [0; 2];
+    assert_eq!(library.append(image, sheet, u64::MAX, &mut out), 0);
+    assert_eq!(out[0], out[1]);
+}
+
+/// A minute's sheet: three readings, the heater's duty and a setpoint.
+fn frame(minute: usize) -> Vec<u8> {
+    let readings: Vec<u8> = (0..3)
+        .flat_map(|probe| (20.0 + probe as f32 + minute as f32 / 60.0).to_le_bytes())
+        .collect();
+    sheet(&[
+        Row::new(b"probe", 9, 3, 1, &readings),
+        Row::new(b"heater", 1, 1, 1, &[minute as u8]),
+        Row::new(b"setpoint", 10, 1, 1, &21.5_f64.to_le_bytes()),
+    ])
+}
+
+/// A day of frames in one image.
+pub struct Day {
+    pub image: Vec<u8>,
+    sheets: Vec<Vec<u8>>,
+}
+
+impl Day {
+    /// The whole day.
+    pub fn new() -> Day {
+        let sheets = (0..FRAMES).map(frame).collect();
+        let mut day = Day { image: vec![0; 1 << 20], sheets };
+        for minute in 0..FRAMES {
+            day.append(&Reference, minute);
+        }
+        day
+    }
+
+    pub fn clear(&mut self) {
+        self.image.fill(0);
+    }
+
+    /// Appends one frame; before the first the image is made.
+    pub fn append(&mut self, library: &dyn Library, minute: usize) {
+        if minute == 0 {
+            create(library, &mut self.image);
+        }
+        append(library, &mut self.image, &self.sheets[minute]);
+    }
+
+    /// Reads the three chunks of one frame.
+    pub fn read(&self, library: &dyn Library, minute: usize) {
+        for name in [&b"probe"[..], b"heater", b"setpoint"] {
+            let mut out = [0; 2];
+            let image = black_box(&self.image);
+            assert_eq!(library.chunk(image, minute as u64, name, &mut out), 0);
+            black_box(out);
+        }
+    }
+}
+
+/// An image with room for a chunk of 1 MiB.
+pub struct Large {
+    image: Vec<u8>,
+    fresh: Vec<u8>,
+    sheet: Vec<u8>,
+}
+
+impl Large {
+    pub fn new() -> Large {
+        let data: Vec<u8> = (0..1 << 20).map(|n| (n * 7 + n / 251) as u8).collect();
+        let sheet = sheet(&[Row::bytes(b"trace", &data)]);
+        let mut fresh = vec![0; 3328];
+        create(&Reference, &mut fresh);
+        let mut large = Large { image: vec![1; (1 << 20) + 8192], fresh, sheet };
+        large.restore();
+        large
+    }
+
+    /// The image as it was before the append, but for the bytes of the chunk.
+    pub fn restore(&mut self) {
+        self.image[..self.fresh.len()].copy_from_slice(&self.fresh);
+    }
+
+    pub fn append(&mut self, library: &dyn Library) {
+        append(library, black_box(&mut self.image), black_box(&self.sheet));
+    }
+
+    /// The chunk's bytes alone, from the sheet to the same place.
+    pub fn copy(&mut self) {
+        let data = &black_box(&self.sheet)[4 + 16 + 5..];
+        let place = &mut black_box(&mut self.image)[3328..][..data.len()];
+        place.copy_from_slice(data);
+        black_box(place);
+    }
+}

@@ -1,0 +1,18 @@
+-- `dialmoth::dialmoth_entry` meets its contract: the answer is the library's, and its number is not a refusal's 0.
+use mathlib.Core.Path.{sym, _∙_}
+use borrow.Author.Needs.{needs}
+use Rattle.dialmoth.proofs.Refusals.{entry-number}
+use Rattle.dialmoth.proofs.dialmoth_entry.Statement.{statement}
+use Rattle.dialmoth.proofs.dialmoth_entry.Tie as tie
+
+entry-requires : tie.Need-entry-requires
+entry-requires c κs = search needs
+
+put-entry-requires : tie.Need-put-entry-requires
+put-entry-requires c κs = λ e. entry-number _ _ (sym (c .before .entry .ensures) ∙ e)
+
+returns : tie.Need-returns
+returns c = (cc, cc)
+
+pub dialmoth-entry-spec : {M : Type 1} → statement M
+dialmoth-entry-spec = tie.close (tie.spec entry-requires put-entry-requires returns)

@@ -1,0 +1,18 @@
+-- `dialmoth::dialmoth_open` meets its contract: the answer is the library's, and its number is not a refusal's 0.
+use mathlib.Core.Path.{sym, _∙_}
+use borrow.Author.Needs.{needs}
+use Rattle.dialmoth.proofs.Refusals.{opening-number}
+use Rattle.dialmoth.proofs.dialmoth_open.Statement.{statement}
+use Rattle.dialmoth.proofs.dialmoth_open.Tie as tie
+
+open-requires : tie.Need-open-requires
+open-requires c κs = search needs
+
+put-counts-requires : tie.Need-put-counts-requires
+put-counts-requires c κs = λ e. opening-number _ (sym (c .before .«open» .ensures) ∙ e)
+
+returns : tie.Need-returns
+returns c = (cc, cc)
+
+pub dialmoth-open-spec : {M : Type 1} → statement M
+dialmoth-open-spec = tie.close (tie.spec open-requires put-counts-requires returns)

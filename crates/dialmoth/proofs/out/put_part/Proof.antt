@@ -1,0 +1,27 @@
+-- `dialmoth::out::put_part` meets its contract: case by case of the answer.
+use mathlib.Core.Path.{refl, ap, _∙_}
+use Rattle.gsd_format.specs.declared.Place.{Place}
+use Rattle.gsd_format.specs.Answers.{placeNumber, placeValues}
+use Rattle.dialmoth.specs.Out.{answered}
+use Rattle.dialmoth.proofs.Refusals.{left}
+use borrow.Author.Needs.{needs}
+use Rattle.dialmoth.proofs.out.put_part.Statement.{statement}
+use Rattle.dialmoth.proofs.out.put_part.Tie as tie
+
+enum-known-answer : tie.Need-enum-known-answer
+enum-known-answer c = search needs
+
+enum-known-answer-2 : tie.Need-enum-known-answer-2
+enum-known-answer-2 c = search needs
+
+returns : tie.Need-returns
+unfolding answered placeNumber placeValues
+returns c = rw (c .before .before .answer .given .1) (refl, refl)
+
+returns-2 : tie.Need-returns-2
+unfolding placeNumber placeValues
+returns-2 c =
+    rw (c .before .answer2 .given .1) (refl, left _ _ _ (λ e. c .before .before .before .pre (c .before .answer2 .given .1 ∙ ap Place.Refused e)))
+
+pub put-part-spec : {M : Type 1} → statement M
+put-part-spec = tie.close (tie.spec enum-known-answer enum-known-answer-2 returns returns-2)

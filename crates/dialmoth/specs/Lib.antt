@@ -1,0 +1,2 @@
+-- What the C interface hands out.
+pub mod Out

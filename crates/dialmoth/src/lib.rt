@@ -1,0 +1,117 @@
+// The C interface. A slice is a pointer and its length, an array of fixed length a pointer. Each call answers its number,
+// 0 for none; its values go to out, which a refusal leaves as it was.
+mod out;
+
+use gsd_append::append;
+use gsd_create::create;
+use gsd_read::chunk_place;
+use gsd_read::element;
+use gsd_read::entry;
+use gsd_read::lookup;
+use gsd_read::name;
+use gsd_read::open;
+use out::put_counts;
+use out::put_element;
+use out::put_entry;
+use out::put_part;
+ghost use mathlib.Core.Path.{_≡_};
+ghost use Rattle.gsd_format.specs.Opening.{opening};
+ghost use Rattle.gsd_format.specs.Lookup.{nthEntry, nthName, lookup, chunkPlace};
+ghost use Rattle.gsd_format.specs.Elements.{element};
+ghost use Rattle.gsd_format.specs.Create.{createNumber, created};
+ghost use Rattle.gsd_format.specs.Answers.{openingNumber, listedNumber, placeNumber, elementNumber};
+ghost use Rattle.gsd_stores.specs.Append.{appendTest, appended};
+ghost use Rattle.dialmoth.specs.Out.{openingOut, listedOut, placeOut, elementOut, appendOut};
+
+// Frames, names, entries.
+#[no_mangle]
+pub extern "C" fn dialmoth_open(image: &[u8], out: &mut [u64; 3]) -> u64
+    ensures { λ r. ⌜ r ≡ openingNumber (opening (now (image .entry))) ⌝ }
+    ensures { λ _. ⌜ now (out .exit) ≡ openingOut (opening (now (image .entry))) (now (out .entry)) ⌝ }
+{
+    put_counts(open(image), out)
+}
+
+// Start, length.
+#[no_mangle]
+pub extern "C" fn dialmoth_name(image: &[u8], n: u64, out: &mut [u64; 2]) -> u64
+    ensures { λ r. ⌜ r ≡ placeNumber (nthName (now (image .entry)) n) ⌝ }
+    ensures { λ _. ⌜ now (out .exit) ≡ placeOut (nthName (now (image .entry)) n) (now (out .entry)) ⌝ }
+{
+    put_part(name(image, n), out)
+}
+
+// Frame, N, location, M, id, type, flags.
+#[no_mangle]
+pub extern "C" fn dialmoth_entry(image: &[u8], n: u64, out: &mut [u64; 7]) -> u64
+    ensures { λ r. ⌜ r ≡ listedNumber (nthEntry (now (image .entry)) n) ⌝ }
+    ensures { λ _. ⌜ now (out .exit) ≡ listedOut (nthEntry (now (image .entry)) n) (now (out .entry)) ⌝ }
+{
+    put_entry(entry(image, n), out)
+}
+
+// As dialmoth_entry.
+#[no_mangle]
+pub extern "C" fn dialmoth_lookup(image: &[u8], frame: u64, name: &[u8], out: &mut [u64; 7]) -> u64
+    ensures { λ r. ⌜ r ≡ listedNumber (lookup (now (image .entry)) frame (now (name .entry))) ⌝ }
+    ensures { λ _. ⌜ now (out .exit) ≡ listedOut (lookup (now (image .entry)) frame (now (name .entry))) (now (out .entry)) ⌝ }
+{
+    put_entry(lookup(image, frame, name), out)
+}
+
+// Start, length.
+#[no_mangle]
+pub extern "C" fn dialmoth_chunk(image: &[u8], frame: u64, name: &[u8], out: &mut [u64; 2]) -> u64
+    ensures { λ r. ⌜ r ≡ placeNumber (chunkPlace (now (image .entry)) frame (now (name .entry))) ⌝ }
+    ensures { λ _. ⌜ now (out .exit) ≡ placeOut (chunkPlace (now (image .entry)) frame (now (name .entry))) (now (out .entry)) ⌝ }
+{
+    put_part(chunk_place(image, frame, name), out)
+}
+
+// Kind, bits.
+#[no_mangle]
+pub extern "C" fn dialmoth_element(
+    image: &[u8],
+    frame: u64,
+    name: &[u8],
+    k: u64,
+    out: &mut [u64; 2],
+) -> u64
+    ensures { λ r. ⌜ r ≡ elementNumber (element (now (image .entry)) frame (now (name .entry)) k) ⌝ }
+    ensures { λ _. ⌜ now (out .exit) ≡ elementOut (element (now (image .entry)) frame (now (name .entry)) k) (now (out .entry)) ⌝ }
+{
+    put_element(element(image, frame, name, k), out)
+}
+
+// A refusal changes no byte.
+#[no_mangle]
+pub extern "C" fn dialmoth_create(
+    image: &mut [u8],
+    application: &[u8],
+    schema: &[u8],
+    schema_version: u32,
+    slots: u64,
+    segments: u64,
+) -> u64
+    ensures { λ r. ⌜ r ≡ createNumber (now (image .entry)) (now (application .entry)) (now (schema .entry)) slots segments ⌝ }
+    ensures { λ _. ⌜ now (image .exit) ≡ created (now (image .entry)) (now (application .entry)) (now (schema .entry)) «schema_version» slots segments ⌝ }
+{
+    create(image, application, schema, schema_version, slots, segments)
+}
+
+// Stores done, stores of the whole append: 0 and 0 where it is refused, which changes no byte of the image.
+#[no_mangle]
+pub extern "C" fn dialmoth_append(
+    image: &mut [u8],
+    sheet: &[u8],
+    limit: u64,
+    out: &mut [u64; 2],
+) -> u64
+    ensures { λ r. ⌜ r ≡ appendTest (now (image .entry)) (now (sheet .entry)) ⌝ }
+    ensures { λ _. ⌜ now (image .exit) ≡ appended (now (image .entry)) (now (sheet .entry)) limit ⌝ }
+    ensures { λ _. ⌜ now (out .exit) ≡ appendOut (now (image .entry)) (now (sheet .entry)) limit ⌝ }
+{
+    let answer = append(image, sheet, limit);
+    *out = [answer.done, answer.whole];
+    answer.number
+}

@@ -1,0 +1,99 @@
+// What goes to a caller's out array: an answer's values, and nothing of a refusal. The number is answered. A refusal's is
+// never 0, and callers show that.
+use gsd_format::Element;
+use gsd_format::Listed;
+use gsd_format::Opening;
+use gsd_format::Place;
+ghost use mathlib.Core.Path.{_≡_};
+ghost use Rattle.gsd_format.specs.declared.Opening.{Opening};
+ghost use Rattle.gsd_format.specs.declared.Listed.{Listed};
+ghost use Rattle.gsd_format.specs.declared.Place.{Place};
+ghost use Rattle.gsd_format.specs.declared.Element.{Element};
+ghost use Rattle.gsd_format.specs.Answers.{openingNumber, listedNumber, placeNumber, elementNumber, bits64};
+ghost use Rattle.dialmoth.specs.Out.{openingOut, listedOut, placeOut, elementOut};
+
+pub fn put_counts(answer: Opening, out: &mut [u64; 3]) -> u64
+    requires { ⌜ (answer ≡ Opening.Refused 0 → ⊥) ⌝ }
+    ensures { λ r. ⌜ r ≡ openingNumber answer ⌝ }
+    ensures { λ _. ⌜ now (out .exit) ≡ openingOut answer (now (out .entry)) ⌝ }
+{
+    match answer {
+        Opening::Open(c) => {
+            *out = [c.frames, c.names, c.entries];
+            0
+        }
+        Opening::Refused(number) => number,
+    }
+}
+
+pub fn put_entry(answer: Listed, out: &mut [u64; 7]) -> u64
+    requires { ⌜ (answer ≡ Listed.Refused 0 → ⊥) ⌝ }
+    ensures { λ r. ⌜ r ≡ listedNumber answer ⌝ }
+    ensures { λ _. ⌜ now (out .exit) ≡ listedOut answer (now (out .entry)) ⌝ }
+{
+    match answer {
+        Listed::Found(e) => {
+            *out = [
+                e.frame,
+                e.n,
+                e.location,
+                e.m as u64,
+                e.id as u64,
+                e.kind as u64,
+                e.flags as u64,
+            ];
+            0
+        }
+        Listed::Refused(number) => number,
+    }
+}
+
+pub fn put_part(answer: Place, out: &mut [u64; 2]) -> u64
+    requires { ⌜ (answer ≡ Place.Refused 0 → ⊥) ⌝ }
+    ensures { λ r. ⌜ r ≡ placeNumber answer ⌝ }
+    ensures { λ _. ⌜ now (out .exit) ≡ placeOut answer (now (out .entry)) ⌝ }
+{
+    match answer {
+        Place::At(p) => {
+            *out = [p.start as u64, p.size as u64];
+            0
+        }
+        Place::Refused(number) => number,
+    }
+}
+
+// Two's complement.
+fn bits_of(number: i64) -> u64
+    ensures { λ r. ⌜ r ≡ bits64 number ⌝ }
+{
+    if number < 0 {
+        return 18446744073709551615 - (-1 - number) as u64;
+    }
+    number as u64
+}
+
+pub fn put_element(answer: Element, out: &mut [u64; 2]) -> u64
+    requires { ⌜ (answer ≡ Element.Refused 0 → ⊥) ⌝ }
+    ensures { λ r. ⌜ r ≡ elementNumber answer ⌝ }
+    ensures { λ _. ⌜ now (out .exit) ≡ elementOut answer (now (out .entry)) ⌝ }
+{
+    match answer {
+        Element::Unsigned(number) => {
+            *out = [1, number];
+            0
+        }
+        Element::Signed(number) => {
+            *out = [2, bits_of(number)];
+            0
+        }
+        Element::Single { value: _, bits } => {
+            *out = [3, bits as u64];
+            0
+        }
+        Element::Double { value: _, bits } => {
+            *out = [4, bits];
+            0
+        }
+        Element::Refused(number) => number,
+    }
+}

@@ -1,0 +1,62 @@
+-- Demand 3 about the append of this crate: from any image that opens, over any calls of it one after the other.
+use Prim.Native.Nat.{ℕ, _≤_, min}
+use mathlib.Core.Path.{_≡_, refl, sym, _∙_, ap, subst}
+use mathlib.Core.Bool.{true}
+use mathlib.Core.List.{List, [], _∷_}
+use native.Mathlib.Omega.{arith}
+use lib.ListN.{length}
+use borrow.Author.Tests.{eqb-true, leb-true, eq-eqb, le-leb}
+use Rattle.gsd_format.specs.Opening.{verdict}
+use Rattle.gsd_format.proofs.Refusals.{both-true, both-of}
+use Rattle.gsd_stores.specs.declared.Appended.{Appended}
+use Rattle.gsd_stores.specs.Append.{storesFor, appendAnswer, appended}
+use Rattle.gsd_stores.specs.Runs.{Call, Moment, during, afterRun, lastStoreMade}
+use Rattle.gsd_stores.specs.Demand3.{Demand3}
+use Rattle.gsd_stores.proofs.Limits.{stopped}
+use Rattle.gsd_stores.proofs.Demand3.{demand3}
+
+-- what `append` ensures of a call: its answer r, and the image y that it leaves of x
+abbrev pub Promised : List ℕ → Call → Appended → List ℕ → Type 0
+Promised x c r y = (r ≡ appendAnswer x (c .sheet) (c .limit)) × (y ≡ appended x (c .sheet) (c .limit))
+
+-- calls one after the other, each on the image that the call before left: from x to z
+pub data Calls : List ℕ → List Call → List ℕ → Type 0 where
+  none : {x : List ℕ} → Calls x [] x
+  then : {x y z : List ℕ} {c : Call} {cs : List Call} (r : Appended) → Promised x c r y → Calls y cs z → Calls x (c ∷ cs) z
+
+calls-run : {x z : List ℕ} {cs : List Call} → Calls x cs z → z ≡ afterRun x cs
+unfolding afterRun
+calls-run none = refl
+calls-run (then {cs = cs} r p q) = calls-run q ∙ ap (λ m. afterRun m cs) (p .1)
+
+-- the image that they leave is that of the run, and of this run demand 3 holds
+pub record Kept (x : List ℕ) (cs : List Call) (z : List ℕ) : Type 0 where
+  pub left : z ≡ afterRun x cs
+  pub demand : Demand3 x cs
+
+pub append-keeps : {x z : List ℕ} {cs : List Call} → verdict x ≡ 0 → Calls x cs z → Kept x cs z
+append-keeps {x} {cs = cs} o q = record { left = calls-run q; demand = demand3 x cs o }
+
+-- A moment of the run, in terms of calls: what a call with a smaller limit would have left
+pub append-moment : {x y : List ℕ} {c : Call} {cs : List Call} (k : ℕ) → k ≤ min (c .limit) (length (storesFor x (c .sheet))) →
+    (r : Appended) → Promised x (record { sheet = c .sheet; bytes = c .bytes; limit = k }) r y → Moment x (c ∷ cs) y
+append-moment {x} {y} {c} {cs} k h r p = subst (Moment x (c ∷ cs)) (stopped x (c .sheet) k ∙ sym (p .1)) (during k h)
+
+-- The last store was made exactly when the answer says so
+module _ (x y : List ℕ) (c : Call) (r : Appended) (p : Promised x c r y) where
+  pub answer-made : r .number ≡ 0 → r .done ≡ r .whole → lastStoreMade x c ≡ true
+  unfolding lastStoreMade appendAnswer
+  answer-made n d =
+      let number = ap (λ a. a .number) (p .0) in
+      let done = ap (λ a. a .done) (p .0) in
+      let whole = ap (λ a. a .whole) (p .0) in
+      both-of _ _ (eq-eqb _ _ (sym number ∙ n)) (le-leb (length (storesFor x (c .sheet))) (c .limit) (omega arith))
+
+  pub made-answer : lastStoreMade x c ≡ true → (r .number ≡ 0) × (r .done ≡ r .whole)
+  unfolding lastStoreMade appendAnswer
+  made-answer h =
+      let both = both-true _ _ h in
+      let few : length (storesFor x (c .sheet)) ≤ c .limit = leb-true _ _ (both .1) in
+      let done = ap (λ a. a .done) (p .0) in
+      let whole = ap (λ a. a .whole) (p .0) in
+      (ap (λ a. a .number) (p .0) ∙ eqb-true _ _ (both .0), omega arith)

@@ -1,0 +1,18 @@
+use native.Mathlib.Omega.{arith}
+use borrow.Author.Needs.{needs}
+use Rattle.gsd_append.proofs.sites.behind.Statement.{statement}
+use Rattle.gsd_append.proofs.sites.behind.Tie as tie
+use Rattle.gsd_append.proofs.sites.behind.Reads as reads
+use Rattle.gsd_append.proofs.sites.behind.Lts as lts
+
+add-result : tie.Need-add-result
+add-result c = search needs
+
+returns : tie.Need-returns
+returns c = (rw (c .if1 .taken), omega arith)
+
+returns-2 : tie.Need-returns-2
+returns-2 c = search needs
+
+pub behind-spec : {M : Type 1} → statement M
+behind-spec = tie.close (tie.spec add-result returns returns-2)

@@ -1,0 +1,73 @@
+-- Where an append's parts go, as numbers: the blocks after the data, and the runs that are there once.
+use Prim.Native.Nat.{ℕ, _+_, _*_, _-_, _/_, min}
+use mathlib.Core.Path.{_≡_}
+use mathlib.Core.Bool.{Bool, cond}
+use lib.Dec.{ltb}
+use Rattle.gsd_format.specs.declared.Layout.{Layout}
+use Rattle.gsd_stores.specs.View.{indexEnd, namelistEnd}
+use Rattle.gsd_stores.specs.Plan.{grown}
+use Rattle.gsd_append.specs.declared.run.Run.{Run}
+use Rattle.gsd_append.specs.declared.plan.Heads.{Heads}
+use Rattle.gsd_append.specs.declared.sites.Sites.{Sites}
+use Rattle.gsd_append.specs.declared.sites.Block.{Block}
+use Rattle.gsd_append.specs.declared.sites.Clears.{Clears}
+use Rattle.gsd_append.specs.Runs.{number, none}
+use Rattle.gsd_append.specs.Matches.{copied, ifMoved}
+
+-- the places behind the data, which end at `end`, when the names need so many bytes and the entries so many slots
+abbrev pub sitesOf : Layout → ℕ → ℕ → ℕ → Sites
+sitesOf l end bytes count =
+    let segments : ℕ = grown ((bytes + 63) / 64) (l .segments) in
+    let slots : ℕ = grown count (l .slots) in
+    let names : ℕ = cond (ltb (64 * l .segments) bytes) (end + 64 * segments) end in
+    record {
+      body = end;
+      «names_move» = ltb (64 * l .segments) bytes;
+      segments = segments;
+      names = names;
+      «index_moves» = ltb (l .slots) count;
+      slots = slots;
+      last = cond (ltb (l .slots) count) (names + 32 * slots) names;
+    }
+
+-- the runs of a block that moves to `to`: so many words of its list, zeros, its header words
+abbrev pub blockOf : Bool → ℕ → ℕ → ℕ → ℕ → ℕ → ℕ → ℕ → Block
+blockOf moves to listed words from until h count = record {
+  copy = ifMoved moves (copied to listed from until);
+  clear = ifMoved moves (number (to + 8 * listed) (words - listed) 0);
+  place = ifMoved moves (number h 1 to);
+  count = ifMoved moves (number (h + 8) 1 count);
+}
+
+-- the runs of step 1: the index slots behind the list, the word that holds the name list's end, the words behind it
+abbrev pub clearsOf : Layout → ℕ → ℕ → Clears
+clearsOf l entries end =
+    let first : ℕ = end / 8 * 8 in
+    let words : ℕ = (namelistEnd l - first) / 8 in
+    record {
+      index = number (l .index + 32 * entries) (4 * (l .slots - entries)) 0;
+      keep = copied first (min 1 words) first end;
+      names = number (first + 8 * min 1 words) (words - 1) 0;
+    }
+
+-- the blocks that step 3 and step 5 move
+abbrev pub nameBlockOf : Layout → ℕ → Sites → Block
+nameBlockOf l end s = blockOf (s .«names_move») (s .body) ((end - l .namelist + 7) / 8) (8 * s .segments) (l .namelist) end 24 (s .segments)
+
+abbrev pub indexBlockOf : Layout → ℕ → Sites → Block
+indexBlockOf l entries s = blockOf (s .«index_moves») (s .names) (4 * entries) (4 * s .slots) (l .index) (l .index + 32 * entries) 8 (s .slots)
+
+abbrev pub headsOf : Clears → Block → Block → Heads
+headsOf c names index = record {
+  «clear_index» = c .index;
+  «keep_names» = c .keep;
+  «clear_names» = c .names;
+  «copy_names» = names .copy;
+  «clear_block» = names .clear;
+  word24 = names .place;
+  word32 = names .count;
+  «copy_entries» = index .copy;
+  «clear_slots» = index .clear;
+  word8 = index .place;
+  word16 = index .count;
+}

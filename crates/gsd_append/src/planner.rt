@@ -1,0 +1,281 @@
+// The plan of an append: everything is tested and every place and number found before the first store.
+use crate::fill::BodyPlaces;
+use crate::fill::fill_entries;
+use crate::fill::place_bodies;
+use crate::fill::place_names;
+use crate::ids::Ids;
+use crate::ids::find_ids;
+use crate::order::sort;
+use crate::plan::Heads;
+use crate::plan::Plan;
+use crate::run::Run;
+use crate::sheet::sheet_rows;
+use crate::sites::Sites;
+use crate::sites::clear_runs;
+use crate::sites::end_of_use;
+use crate::sites::find_sites;
+use crate::sites::index_block;
+use crate::sites::join_heads;
+use crate::sites::name_block;
+use gsd_format::Layout;
+use gsd_read::survey_of;
+ghost use mathlib.Core.Path.{_≡_};
+ghost use mathlib.Core.Bool.{cond};
+ghost use Prim.Native.Nat.{_≤_};
+ghost use lib.ListN.{length};
+ghost use lib.Dec.{ltb};
+ghost use Rattle.gsd_format.specs.Opening.{mostNames};
+ghost use Rattle.gsd_format.specs.Refusals.{_⇒_};
+ghost use Rattle.gsd_stores.specs.View.{viewOf};
+ghost use Rattle.gsd_stores.specs.Sheet.{rowCount, sheetTest};
+ghost use Rattle.gsd_stores.specs.Plan.{finalPosition};
+ghost use Rattle.gsd_stores.specs.Append.{planTest, appendTest};
+ghost use Rattle.gsd_read.specs.NameLists.{namesIn, Spans};
+ghost use Rattle.gsd_append.specs.SheetRows.{Located};
+ghost use Rattle.gsd_append.specs.Sites.{clearsOf, nameBlockOf, indexBlockOf, headsOf};
+ghost use Rattle.gsd_append.specs.Planning.{planned, Sees, Asked, Sited, Joinable, Joined, Plans};
+
+// What the append sees of an image: its layout, the counts of entries and frames, and the ends of names and chunks.
+pub struct Seen {
+    pub layout: Layout,
+    pub entries: u64,
+    pub frames: u64,
+    pub end: usize,
+    pub chunks: u64,
+}
+
+// The append's number, and where that is 0 its plan.
+pub struct Planning {
+    pub number: u64,
+    pub plan: Plan,
+}
+
+fn no_run() -> Run {
+    Run {
+        kind: 2,
+        to: 0,
+        words: 0,
+        from: 0,
+        until: 0,
+        value: 0,
+    }
+}
+
+fn no_heads() -> Heads {
+    let none = no_run();
+    Heads {
+        clear_index: none,
+        keep_names: none,
+        clear_names: none,
+        copy_names: none,
+        clear_block: none,
+        word24: none,
+        word32: none,
+        copy_entries: none,
+        clear_slots: none,
+        word8: none,
+        word16: none,
+    }
+}
+
+fn refused(number: u64) -> Planning
+    ensures { λ r. ⌜ r .number ≡ number ⌝ }
+{
+    let heads = no_heads();
+    Planning {
+        number,
+        plan: Plan {
+            rows: 0,
+            fresh: 0,
+            heads,
+            body_to: [0; 64],
+            body_from: [0; 64],
+            body_until: [0; 64],
+            name_at: [0; 64],
+            name_from: [0; 64],
+            name_until: [0; 64],
+            slot: 0,
+            frame: 0,
+            n: [0; 64],
+            meta: [0; 64],
+            location: [0; 64],
+        },
+    }
+}
+
+fn heads_for(l: Layout, entries: usize, end: usize, s: Sites) -> Heads
+    requires { ⌜ Sited l entries end s ⌝ }
+    ensures { λ r. ⌜ r ≡ headsOf (clearsOf l entries end) (nameBlockOf l end s) (indexBlockOf l entries s) ⌝ }
+{
+    let clears = clear_runs(l, entries, end);
+    let names = name_block(l, end, s);
+    let index = index_block(l, entries, s);
+    join_heads(clears, names, index)
+}
+
+fn chosen(moves: bool, new: u64, old: u64) -> u64
+    ensures { λ r. ⌜ r ≡ cond moves new old ⌝ }
+{
+    if moves { new } else { old }
+}
+
+fn join<'a>(
+    sheet: &[u8],
+    names: &'a [usize; 65],
+    bodies: &'a [usize; 64],
+    rows: &'a [usize; 64],
+    order: &[u64; 64],
+    count: usize,
+    fresh: usize,
+    v: Seen,
+    s: Sites,
+    heads: Heads,
+    b: BodyPlaces,
+) -> Plan
+    requires { ⌜ Joinable (now sheet) (now names) (now bodies) (now rows) (now order) count fresh v s ⌝ }
+    ensures { λ r. ⌜ Joined (now (sheet .entry)) (now (names .entry)) (now (bodies .entry)) (now (rows .entry)) (now (order .entry)) count fresh v s heads b r ⌝ }
+{
+    let block = chosen(s.names_move, s.body, v.layout.namelist) as usize;
+    let index = chosen(s.index_moves, s.names, v.layout.index) as usize;
+    let found = place_names(
+        names,
+        bodies,
+        rows,
+        fresh,
+        block + (v.end - v.layout.namelist as usize),
+    );
+    let body_to = b.to;
+    let body_from = *bodies;
+    let body_until = b.until;
+    let name_at = found.at;
+    let name_from = found.from;
+    let name_until = found.until;
+    let numbers = fill_entries(sheet, order, &body_to, count);
+    let n = numbers.n;
+    let meta = numbers.meta;
+    let location = numbers.location;
+    Plan {
+        rows: count,
+        fresh,
+        heads,
+        body_to,
+        body_from,
+        body_until,
+        name_at,
+        name_from,
+        name_until,
+        slot: index + 32 * v.entries as usize,
+        frame: v.frames,
+        n,
+        meta,
+        location,
+    }
+}
+
+// 29, and the plan.
+fn plan_rows<'a>(
+    image: &[u8],
+    sheet: &[u8],
+    v: Seen,
+    names: &'a [usize; 65],
+    bodies: &'a [usize; 64],
+    count: usize,
+    ids: Ids,
+) -> Planning
+    requires { ⌜ Sees (now image) v × Asked (now image) (now sheet) (now names) (now bodies) count ids ⌝ }
+    ensures { λ r. ⌜ Plans (now (image .entry)) (now (sheet .entry)) (ltb (viewOf (now (image .entry)) .layout .len) (finalPosition (planned (now (image .entry)) (now (sheet .entry)))) ⇒ 29) r ⌝ }
+{
+    let start = end_of_use(v.layout, v.chunks) as usize;
+    let places = place_bodies(names, bodies, count, start);
+    let len = image.len();
+    if len < places.end {
+        return refused(29);
+    }
+    let bytes = v.end - v.layout.namelist as usize + ids.size;
+    let sites = find_sites(
+        v.layout,
+        places.end as u64,
+        bytes as u64,
+        v.entries + count as u64,
+    );
+    if (len as u64) < sites.last {
+        return refused(29);
+    }
+    let heads = heads_for(v.layout, v.entries as usize, v.end, sites);
+    let packed = ids.packed;
+    let order = sort(packed, count);
+    let plan = join(
+        sheet,
+        names,
+        bodies,
+        &ids.rows,
+        &order,
+        count,
+        ids.fresh,
+        v,
+        sites,
+        heads,
+        places,
+    );
+    Planning { number: 0, plan }
+}
+
+// 28, then 29.
+fn plan_names<'a>(
+    image: &[u8],
+    sheet: &[u8],
+    v: Seen,
+    starts: &[u32; 1025],
+    listed: usize,
+    names: &'a [usize; 65],
+    bodies: &'a [usize; 64],
+    count: usize,
+) -> Planning
+    requires { ⌜ Sees (now image) v × Spans (now starts) listed (length (now image)) × (listed ≤ mostNames) × (listed ≡ length (viewOf (now image) .names))
+        × (namesIn (now image) (now starts) listed ≡ viewOf (now image) .names) × (sheetTest (now sheet) ≡ 0) × Located (now sheet) (now names) (now bodies)
+        × (count ≡ rowCount (now sheet)) ⌝ }
+    ensures { λ r. ⌜ Plans (now (image .entry)) (now (sheet .entry)) (planTest (now (image .entry)) (now (sheet .entry))) r ⌝ }
+{
+    let ids = find_ids(image, starts, listed, sheet, names, bodies, count);
+    if 1024 < listed + ids.fresh {
+        return refused(28);
+    }
+    plan_rows(image, sheet, v, names, bodies, count, ids)
+}
+
+// Every test in its order; nothing is stored.
+pub(crate) fn plan_append(image: &[u8], sheet: &[u8]) -> Planning
+    ensures { λ r. ⌜ Plans (now (image .entry)) (now (sheet .entry)) (appendTest (now (image .entry)) (now (sheet .entry))) r ⌝ }
+{
+    let s = survey_of(image);
+    if s.number != 0 {
+        return refused(s.number);
+    }
+    if s.layout.index % 8 != 0 {
+        return refused(21);
+    }
+    if s.layout.namelist % 8 != 0 {
+        return refused(21);
+    }
+    let rows = sheet_rows(sheet);
+    if rows.number != 0 {
+        return refused(rows.number);
+    }
+    let v = Seen {
+        layout: s.layout,
+        entries: s.entries,
+        frames: s.frames,
+        end: s.names.end,
+        chunks: s.end,
+    };
+    plan_names(
+        image,
+        sheet,
+        v,
+        &s.names.starts,
+        s.names.count,
+        &rows.names,
+        &rows.bodies,
+        rows.count,
+    )
+}

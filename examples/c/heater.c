@@ -1,0 +1,129 @@
+/*
+ * A regulator's night in an image: make it, append frames, survive a stop, and read the heater's
+ * duty of the last frame.
+ */
+#include "dialmoth.h"
+
+#include <inttypes.h>
+#include <stdio.h>
+#include <stdlib.h>
+#include <string.h>
+
+/* Laid out beforehand and longer than what is used at first, as a region of flash would be. */
+static uint8_t image[4096];
+
+/* Where a refusal is a mistake of this program. */
+static void must(const char *what, uint64_t number)
+{
+    if (number != 0) {
+        fprintf(stderr, "%s: refused %" PRIu64 "\n", what, number);
+        exit(1);
+    }
+}
+
+static uint8_t *put(uint8_t *at, const void *bytes, size_t count)
+{
+    memcpy(at, bytes, count);
+    return at + count;
+}
+
+/* Writes one row of a sheet's table. */
+static uint8_t *put_row(uint8_t *at, uint64_t n, uint32_t m, uint8_t type, const char *name)
+{
+    int k;
+    for (k = 0; k < 8; k++)
+        *at++ = (uint8_t)(n >> 8 * k);
+    for (k = 0; k < 4; k++)
+        *at++ = (uint8_t)(m >> 8 * k);
+    *at++ = type;
+    *at++ = (uint8_t)strlen(name);
+    *at++ = 0;
+    *at++ = 0;
+    return at;
+}
+
+/*
+ * Appends a frame with three readings and, where the heater answered, its duty in per cent.
+ * Makes at most `limit` stores; answers whether the frame is there.
+ */
+static int append_frame(const float probe[3], const uint8_t *duty, uint64_t limit)
+{
+    uint8_t sheet[128];
+    uint8_t *end = put(sheet, "\1\0\0\0", 4);
+    uint64_t stores[2];
+    int k;
+
+    if (duty != NULL)
+        sheet[0] = 2;
+    end = put_row(end, 3, 1, DIALMOTH_FLOAT, "probe");
+    if (duty != NULL)
+        end = put_row(end, 1, 1, DIALMOTH_U8, "heater");
+    end = put(end, "probe", 5);
+    for (k = 0; k < 3; k++) {
+        uint32_t bits;
+        memcpy(&bits, &probe[k], 4);
+        *end++ = (uint8_t)bits;
+        *end++ = (uint8_t)(bits >> 8);
+        *end++ = (uint8_t)(bits >> 16);
+        *end++ = (uint8_t)(bits >> 24);
+    }
+    if (duty != NULL) {
+        end = put(end, "heater", 6);
+        end = put(end, duty, 1);
+    }
+    must("append", dialmoth_append(image, sizeof image, sheet, (size_t)(end - sheet), limit, stores));
+    printf("append: %" PRIu64 " of %" PRIu64 " stores\n", stores[0], stores[1]);
+    return stores[0] == stores[1];
+}
+
+/* The duty of the last frame. That there is none is an answer of its own, and not a number. */
+static void print_last_duty(void)
+{
+    const uint8_t *name = (const uint8_t *)"heater";
+    uint64_t counts[3], element[2], number;
+
+    must("open", dialmoth_open(image, sizeof image, counts));
+    if (counts[0] == 0) {
+        printf("no frame yet\n");
+        return;
+    }
+    number = dialmoth_element(image, sizeof image, counts[0] - 1, name, 6, 0, element);
+    if (number == 41 || number == 42) {
+        printf("frame %" PRIu64 ": no heater chunk\n", counts[0] - 1);
+        return;
+    }
+    must("element", number);
+    if (element[0] != DIALMOTH_KIND_UNSIGNED) {
+        fprintf(stderr, "heater: not an unsigned number\n");
+        exit(1);
+    }
+    printf("frame %" PRIu64 ": heater duty %" PRIu64 "\n", counts[0] - 1, element[1]);
+}
+
+int main(void)
+{
+    static const float evening[3] = {21.5f, 22.25f, 19.0f}, night[3] = {18.5f, 18.75f, 17.5f};
+    const uint8_t duty = 40, more = 55;
+
+    must("create", dialmoth_create(image, sizeof image, (const uint8_t *)"regulator", 9,
+                                   (const uint8_t *)"night", 5, 0x00010000, 8, 1));
+    print_last_duty();
+
+    append_frame(evening, &duty, UINT64_MAX);
+    print_last_duty();
+
+    /* The heater does not answer: the frame has no chunk of it. */
+    append_frame(evening, NULL, UINT64_MAX);
+    print_last_duty();
+
+    /* The power fails after ten stores: the last frame reads as before. */
+    if (append_frame(night, &more, 10))
+        return 1;
+    print_last_duty();
+
+    /* After the restart the same append is made again, and now to its end. */
+    if (!append_frame(night, &more, UINT64_MAX))
+        return 1;
+    print_last_duty();
+    return 0;
+}

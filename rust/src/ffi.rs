@@ -1,0 +1,68 @@
+//! The eight functions of include/dialmoth.h as they are.
+//!
+//! A slice is a pointer and a length; the pointer is never null. `out` points to as many numbers
+//! as the function's comment says. The result is the number of the refusal, 0 for an answer.
+
+extern "C" {
+    /// `out`: frames, names, entries.
+    pub fn dialmoth_open(image: *const u8, image_length: usize, out: *mut u64) -> u64;
+
+    /// `out`: start, length.
+    pub fn dialmoth_name(image: *const u8, image_length: usize, n: u64, out: *mut u64) -> u64;
+
+    /// `out`: frame, N, location, M, id, type, flags.
+    pub fn dialmoth_entry(image: *const u8, image_length: usize, n: u64, out: *mut u64) -> u64;
+
+    /// `out`: frame, N, location, M, id, type, flags.
+    pub fn dialmoth_lookup(
+        image: *const u8,
+        image_length: usize,
+        frame: u64,
+        name: *const u8,
+        name_length: usize,
+        out: *mut u64,
+    ) -> u64;
+
+    /// `out`: start, length.
+    pub fn dialmoth_chunk(
+        image: *const u8,
+        image_length: usize,
+        frame: u64,
+        name: *const u8,
+        name_length: usize,
+        out: *mut u64,
+    ) -> u64;
+
+    /// `out`: kind (1 unsigned, 2 signed, 3 single, 4 double), bits.
+    pub fn dialmoth_element(
+        image: *const u8,
+        image_length: usize,
+        frame: u64,
+        name: *const u8,
+        name_length: usize,
+        k: u64,
+        out: *mut u64,
+    ) -> u64;
+
+    pub fn dialmoth_create(
+        image: *mut u8,
+        image_length: usize,
+        application: *const u8,
+        application_length: usize,
+        schema: *const u8,
+        schema_length: usize,
+        schema_version: u32,
+        slots: u64,
+        segments: u64,
+    ) -> u64;
+
+    /// `out`: stores done, stores of the whole append; 0 and 0 when refused.
+    pub fn dialmoth_append(
+        image: *mut u8,
+        image_length: usize,
+        sheet: *const u8,
+        sheet_length: usize,
+        limit: u64,
+        out: *mut u64,
+    ) -> u64;
+}

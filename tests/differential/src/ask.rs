@@ -1,0 +1,86 @@
+//! The eight calls with answers as `Result`s, for tests that hold a library to the paper directly.
+
+use crate::library::{Create, Library};
+
+pub type Answer<T> = Result<T, u64>;
+
+fn answer<const K: usize>(call: impl FnOnce(&mut [u64; K]) -> u64) -> Answer<[u64; K]> {
+    let mut out = [0; K];
+    match call(&mut out) {
+        0 => Ok(out),
+        number => Err(number),
+    }
+}
+
+fn part(image: &[u8], [start, length]: [u64; 2]) -> &[u8] {
+    &image[start as usize..][..length as usize]
+}
+
+pub trait Ask: Library {
+    fn counts(&self, image: &[u8]) -> Answer<[u64; 3]> {
+        answer(|out| self.open(image, out))
+    }
+
+    fn nth_name<'a>(&self, image: &'a [u8], n: u64) -> Answer<&'a [u8]> {
+        Ok(part(image, answer(|out| self.name(image, n, out))?))
+    }
+
+    fn nth_entry(&self, image: &[u8], n: u64) -> Answer<[u64; 7]> {
+        answer(|out| self.entry(image, n, out))
+    }
+
+    fn find(&self, image: &[u8], frame: u64, name: &[u8]) -> Answer<[u64; 7]> {
+        answer(|out| self.lookup(image, frame, name, out))
+    }
+
+    fn bytes<'a>(&self, image: &'a [u8], frame: u64, name: &[u8]) -> Answer<&'a [u8]> {
+        Ok(part(image, answer(|out| self.chunk(image, frame, name, out))?))
+    }
+
+    /// Kind and bits.
+    fn nth_element(&self, image: &[u8], frame: u64, name: &[u8], k: u64) -> Answer<[u64; 2]> {
+        answer(|out| self.element(image, frame, name, k, out))
+    }
+
+    /// A fresh image of `length` bytes, zero before, with empty texts.
+    fn fresh(&self, length: usize, slots: u64, segments: u64) -> Answer<Vec<u8>> {
+        let mut image = vec![0; length];
+        let create = Create { application: b"", schema: b"", schema_version: 0, slots, segments };
+        match self.create(&mut image, create) {
+            0 => Ok(image),
+            number => Err(number),
+        }
+    }
+
+    /// Done and whole.
+    fn put(&self, image: &mut [u8], sheet: &[u8], limit: u64) -> Answer<[u64; 2]> {
+        answer(|out| self.append(image, sheet, limit, out))
+    }
+
+    /// The image that `limit` stores leave, with done and whole.
+    fn after(&self, image: &[u8], sheet: &[u8], limit: u64) -> (Vec<u8>, Answer<[u64; 2]>) {
+        let mut image = image.to_vec();
+        let stores = self.put(&mut image, sheet, limit);
+        (image, stores)
+    }
+
+    /// What the listing program prints.
+    fn listing(&self, image: &[u8]) -> String {
+        if image.len() > 65_536 {
+            return "too long\n".into();
+        }
+        let [frames, names, entries] = match self.counts(image) {
+            Ok(counts) => counts,
+            Err(number) => return format!("refused {number}\n"),
+        };
+        let mut text = format!("frames {frames} names {names} entries {entries}\n");
+        for n in 0..entries {
+            let [frame, rows, location, columns, id, kind, _] =
+                self.nth_entry(image, n).expect("an entry below the count");
+            text += &format!("{frame} {id} {kind} {rows} {columns} {location}\n");
+        }
+        text
+    }
+}
+
+impl<L: Library + ?Sized> Ask for L {}

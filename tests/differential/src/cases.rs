@@ -1,0 +1,666 @@
+//! The paper's worked cases, and the edges that a hurried builder gets wrong, worked out by hand.
+//!
+//! Each is a function that panics on a wrong answer, so that the same cases hold the plain Rust
+//! implementation and the archive to the paper itself, not only to each other.
+
+use crate::ask::Ask;
+use crate::images::{blank, get64, put32, put64, put_names, put_slots, sheet, Row, Slot};
+use crate::library::{Create, Library};
+
+pub type Case = (&'static str, fn(&dyn Library));
+
+/// All stores.
+const ALL: u64 = u64::MAX;
+
+const PROBE: [u8; 12] = [0, 0, 0x80, 0x3F, 0, 0, 0x20, 0xC0, 1, 0, 0x80, 0x7F];
+
+pub fn sheet_a() -> Vec<u8> {
+    sheet(&[Row::new(b"probe", 9, 3, 1, &PROBE)])
+}
+
+pub fn sheet_b() -> Vec<u8> {
+    sheet(&[Row::new(b"probe", 9, 3, 1, &PROBE), Row::new(b"heater", 1, 1, 1, &[40])])
+}
+
+/// The fresh image of the worked cases: 2 slots at 256, 1 segment at 320, 384 bytes used.
+fn fresh(library: &dyn Library) -> Vec<u8> {
+    library.fresh(1024, 2, 1).unwrap()
+}
+
+/// A row with no data.
+fn nothing(name: &[u8]) -> Vec<u8> {
+    sheet(&[Row::new(name, 1, 0, 1, b"")])
+}
+
+/// 2 slots at 256 and 1 segment at 320 that lists `names`.
+fn listing(length: usize, names: &[&[u8]]) -> Vec<u8> {
+    let mut image = blank(length, 256, 2, 320, 1);
+    put_names(&mut image, 320, names.iter().copied());
+    image
+}
+
+/// 2 slots at 256 with these entries, name "a" in 1 segment at 320.
+fn entries(length: usize, slots: &[Slot]) -> Vec<u8> {
+    let mut image = listing(length, &[b"a"]);
+    put_slots(&mut image, 256, slots);
+    image
+}
+
+/// `count` different names of seven bytes and their zero, behind 2 slots.
+fn many_names(count: usize) -> Vec<u8> {
+    let segments = (8 * count).div_ceil(64) + 1;
+    let mut image = blank(320 + 64 * segments, 256, 2, 320, segments as u64);
+    let names: Vec<_> = (0..count).map(|n| format!("n{n:06}").into_bytes()).collect();
+    put_names(&mut image, 320, names.iter().map(Vec::as_slice));
+    image
+}
+
+pub const CASES: &[Case] = &[
+    ("worked: fresh image", |l| {
+        let image = fresh(l);
+        assert_eq!(l.counts(&image), Ok([0, 0, 0]));
+        // The end of use shows as the first chunk's place.
+        let (after, _) = l.after(&image, &sheet_a(), ALL);
+        assert_eq!(l.find(&after, 0, b"probe").map(|e| e[2]), Ok(384));
+        assert_eq!(l.fresh(383, 2, 1), Err(52));
+        assert!(l.fresh(384, 2, 1).is_ok());
+    }),
+    ("worked: sheet A", |l| {
+        let image = fresh(l);
+        assert_eq!(sheet_a().len(), 37);
+        assert_eq!(l.after(&image, &sheet_a(), ALL).1, Ok([23, 23]));
+        let (stopped, stores) = l.after(&image, &sheet_a(), 22);
+        assert_eq!(stores, Ok([22, 23]));
+        assert_eq!(l.counts(&stopped), Ok([0, 1, 0]));
+        let (after, stores) = l.after(&image, &sheet_a(), 23);
+        assert_eq!(stores, Ok([23, 23]));
+        assert_eq!(l.listing(&after), "frames 1 names 1 entries 1\n0 0 9 3 1 384\n");
+        assert_eq!(l.bytes(&after, 0, b"probe"), Ok(&PROBE[..]));
+        // End of use 400: the next chunk lies there.
+        let (next, _) = l.after(&after, &nothing(b"probe"), ALL);
+        assert_eq!(l.find(&next, 1, b"probe").map(|e| e[2]), Ok(400));
+    }),
+    ("worked: sheet B", |l| {
+        let (image, _) = l.after(&fresh(l), &sheet_a(), ALL);
+        assert_eq!(sheet_b().len(), 60);
+        let (after, stores) = l.after(&image, &sheet_b(), ALL);
+        assert_eq!(stores, Ok([43, 43]));
+        assert_eq!([get64(&after, 8), get64(&after, 16)], [424, 4]);
+        assert_eq!(
+            l.listing(&after),
+            "frames 2 names 2 entries 3\n0 0 9 3 1 384\n1 0 9 3 1 400\n1 1 1 1 1 416\n"
+        );
+        let (next, _) = l.after(&after, &nothing(b"probe"), ALL);
+        assert_eq!(l.find(&next, 2, b"probe").map(|e| e[2]), Ok(552));
+        let (stopped, _) = l.after(&image, &sheet_b(), 34);
+        assert_eq!([get64(&stopped, 8), get64(&stopped, 16)], [424, 2]);
+        assert_eq!(l.counts(&stopped), Ok([1, 2, 1]));
+        assert_eq!(l.after(&image[..552], &sheet_b(), ALL).1, Ok([43, 43]));
+        assert_eq!(l.after(&image[..551], &sheet_b(), ALL).1, Err(29));
+    }),
+    ("worked: lookups", |l| {
+        let (image, _) = l.after(&fresh(l), &sheet_a(), ALL);
+        let (image, _) = l.after(&image, &sheet_b(), ALL);
+        assert_eq!(l.find(&image, 0, b"heater"), Err(42));
+        assert_eq!(l.find(&image, 2, b"heater"), Err(40));
+        assert_eq!(l.find(&image, 1, b"fan"), Err(41));
+        assert_eq!(l.nth_element(&image, 1, b"heater", 0), Ok([1, 40]));
+    }),
+    ("worked: elements", |l| {
+        let (image, _) = l.after(&fresh(l), &sheet_a(), ALL);
+        assert_eq!(l.nth_element(&image, 0, b"probe", 0), Ok([3, 0x3F80_0000]));
+        assert_eq!(l.nth_element(&image, 0, b"probe", 1), Ok([3, 0xC020_0000]));
+        // A signalling NaN keeps its bits.
+        assert_eq!(l.nth_element(&image, 0, b"probe", 2), Ok([3, 0x7F80_0001]));
+        assert_eq!(l.nth_element(&image, 0, b"probe", 3), Err(43));
+    }),
+    ("worked: 1,024 names", |l| {
+        assert_eq!(l.counts(&many_names(1024)), Ok([0, 1024, 0]));
+        assert_eq!(l.counts(&many_names(1025)), Err(10));
+    }),
+    ("worked: 64 rows", |l| {
+        let rows: Vec<_> = (0..65).map(|n| Row::bytes(&[b'a', n + 1], &[n])).collect();
+        let image = l.fresh(16_384, 0, 0).unwrap();
+        let (after, stores) = l.after(&image, &sheet(&rows[..64]), ALL);
+        assert!(stores.is_ok());
+        assert_eq!(l.counts(&after), Ok([1, 64, 64]));
+        assert_eq!(l.after(&image, &sheet(&rows), ALL), (image, Err(22)));
+    }),
+    ("worked: location -1", |l| {
+        assert_eq!(l.counts(&entries(512, &[Slot::bytes(0, 0, u64::MAX, 0)])), Err(12));
+    }),
+    ("numbers 1 to 5", |l| {
+        assert_eq!(l.counts(&[]), Err(1));
+        assert_eq!(l.counts(&fresh(l)[..255]), Err(1));
+        let changed = |at: usize, byte: u8| {
+            let mut image = fresh(l);
+            image[at] = byte;
+            l.counts(&image)
+        };
+        for at in 0..8 {
+            assert_eq!(changed(at, 0), Err(3));
+        }
+        assert_eq!(changed(44, 1), Err(4));
+        assert_eq!(changed(46, 1), Err(4));
+        for text in [48, 112] {
+            let mut image = fresh(l);
+            image[text..text + 63].fill(b'x');
+            assert!(l.counts(&image).is_ok());
+            image[text + 63] = b'x';
+            assert_eq!(l.counts(&image), Err(5));
+        }
+        // Reserved bytes and the schema's version say nothing.
+        assert!(changed(40, 255).is_ok() && changed(176, 1).is_ok() && changed(255, 9).is_ok());
+    }),
+    ("numbers 6 to 8", |l| {
+        let verdict = |index, slots, names, segments| {
+            l.counts(&blank(512, index, slots, names, segments)).err().unwrap_or(0)
+        };
+        assert_eq!(verdict(255, 1, 320, 1), 6);
+        assert_eq!(verdict(481, 1, 256, 1), 6);
+        assert_eq!(verdict(480, 1, 256, 1), 0);
+        assert_eq!(verdict(256, 1, 255, 1), 7);
+        assert_eq!(verdict(256, 1, 449, 1), 7);
+        assert_eq!(verdict(256, 1, 448, 1), 0);
+        assert_eq!(verdict(256, 2, 319, 1), 8);
+        assert_eq!(verdict(256, 2, 320, 1), 0);
+        assert_eq!(verdict(320, 2, 256, 1), 0);
+        assert_eq!(verdict(319, 2, 256, 1), 8);
+        // Blocks at odd places open.
+        assert_eq!(verdict(257, 1, 289, 1), 0);
+    }),
+    ("numbers 9 and 11", |l| {
+        let mut image = listing(512, &[b"ab", b"cd"]);
+        assert_eq!(l.counts(&image), Ok([0, 2, 0]));
+        assert_eq!(l.counts(&listing(512, &[b"ab", b"cd", b"ab"])), Err(11));
+        assert!(l.counts(&listing(512, &[b"ab", b"abc", b"b"])).is_ok());
+        image[326..384].fill(b'x');
+        assert_eq!(l.counts(&image), Err(9));
+        image[383] = 0;
+        assert_eq!(l.counts(&image), Ok([0, 3, 0]));
+    }),
+    ("numbers 12 to 17", |l| {
+        let verdict = |slots: &[Slot]| l.counts(&entries(512, slots)).err().unwrap_or(0);
+        let good = Slot::bytes(0, 0, 384, 4);
+        assert_eq!(verdict(&[good]), 0);
+        assert_eq!(verdict(&[Slot { location: 255, ..good }]), 12);
+        assert_eq!(verdict(&[Slot { kind: 11, ..good }]), 13);
+        assert_eq!(verdict(&[Slot { id: 1, ..good }]), 14);
+        assert_eq!(verdict(&[Slot { frame: 1, ..good }]), 15);
+        assert_eq!(verdict(&[good, good]), 15);
+        assert_eq!(verdict(&[good, Slot { frame: 1, ..good }]), 0);
+        assert_eq!(verdict(&[good, Slot { frame: 2, ..good }]), 15);
+        assert_eq!(verdict(&[Slot { frame: u64::MAX, ..good }]), 15);
+        assert_eq!(verdict(&[Slot { n: 129, ..good }]), 16);
+        assert_eq!(verdict(&[Slot { n: 128, ..good }]), 0);
+        assert_eq!(verdict(&[Slot { location: 319, n: 1, ..good }]), 17);
+        assert_eq!(verdict(&[Slot { location: 383, ..good }]), 17);
+        assert_eq!(verdict(&[Slot { flags: 255, ..good }]), 0);
+        // Ids fall from a frame to the next, and rise within one.
+        let mut image = listing(512, &[b"a", b"b"]);
+        put_slots(&mut image, 256, &[Slot { id: 1, ..good }, Slot { frame: 1, ..good }]);
+        assert_eq!(l.counts(&image), Ok([2, 2, 2]));
+        put_slots(&mut image, 256, &[Slot { id: 1, ..good }, good]);
+        assert_eq!(l.counts(&image), Err(15));
+        put_slots(&mut image, 256, &[good, Slot { id: 1, ..good }]);
+        assert_eq!(l.counts(&image), Ok([1, 2, 2]));
+    }),
+    ("numbers 22 to 27", |l| {
+        let image = fresh(l);
+        let number = |sheet: &[u8]| {
+            let (after, stores) = l.after(&image, sheet, ALL);
+            assert!(stores.is_ok() || after == image, "a refusal changes nothing");
+            stores.err().unwrap_or(0)
+        };
+        let good = sheet_b();
+        let changed = |at: usize, byte: u8| {
+            let mut sheet = good.clone();
+            sheet[at] = byte;
+            number(&sheet)
+        };
+        assert_eq!(number(&[]), 22);
+        assert_eq!(number(&[1, 0, 0]), 22);
+        assert_eq!(number(&[0, 0, 0, 0]), 22);
+        assert_eq!(changed(3, 1), 22);
+        assert_eq!(number(&good[..4]), 23);
+        assert_eq!(number(&good[..35]), 23);
+        assert_eq!(number(&good[..36]), 25);
+        assert_eq!(changed(16, 11), 24);
+        assert_eq!(changed(17, 0), 24);
+        assert_eq!(changed(18, 1), 24);
+        assert_eq!(changed(35, 1), 24);
+        assert_eq!(number(&good[..59]), 25);
+        assert_eq!(number(&[&good[..], &[0]].concat()), 25);
+        assert_eq!(changed(36, 0), 26);
+        assert_eq!(number(&sheet(&[Row::bytes(b"ab", b"1"), Row::bytes(b"ab", b"")])), 27);
+        assert_eq!(number(&good), 0);
+    }),
+    ("number 28", |l| {
+        let mut image = many_names(1023);
+        image.resize(image.len() + 65_536, 0);
+        let two = sheet(&[Row::bytes(b"one", b""), Row::bytes(b"two", b"")]);
+        assert_eq!(l.after(&image, &two, ALL).1, Err(28));
+        let old = sheet(&[Row::bytes(b"one", b""), Row::bytes(b"n000007", b"")]);
+        let (after, stores) = l.after(&image, &old, ALL);
+        assert!(stores.is_ok());
+        assert_eq!(l.counts(&after), Ok([1, 1024, 2]));
+        assert_eq!(l.after(&after, &nothing(b"two"), ALL).1, Err(28));
+        assert!(l.after(&after, &nothing(b"one"), ALL).1.is_ok());
+    }),
+    ("numbers 43 and 44", |l| {
+        let (image, _) = l.after(&fresh(l), &sheet_a(), ALL);
+        assert_eq!(l.nth_name(&image, 0), Ok(&b"probe"[..]));
+        assert_eq!(l.nth_name(&image, 1), Err(44));
+        assert_eq!(l.nth_name(&image, ALL), Err(44));
+        assert_eq!(l.nth_entry(&image, 0), Ok([0, 3, 384, 1, 0, 9, 0]));
+        assert_eq!(l.nth_entry(&image, 1), Err(44));
+        assert_eq!(l.nth_entry(&image, 1 << 32), Err(44));
+        assert_eq!(l.nth_element(&image, 0, b"probe", 1 << 32), Err(43));
+        // The element's test comes after the lookup's.
+        assert_eq!(l.nth_element(&image, 1, b"fan", 9), Err(40));
+        assert_eq!(l.nth_element(&image, 0, b"fan", 9), Err(41));
+    }),
+    ("elements of the ten types", |l| {
+        let image = l.fresh(2048, 16, 4).unwrap();
+        let data: Vec<u8> = (0xF0..=0xFF).collect();
+        let rows: Vec<_> = (1..=10)
+            .map(|kind| {
+                let n = (data.len() / crate::images::size(kind)) as u64 / 2;
+                Row::new(&[b'0' + kind], kind, n, 2, &data)
+            })
+            .collect();
+        let (image, _) = l.after(&image, &sheet(&rows), ALL);
+        let second = |kind: u8| l.nth_element(&image, 0, &[b'0' + kind], 1).unwrap();
+        assert_eq!(second(1), [1, 0xF1]);
+        assert_eq!(second(2), [1, 0xF3F2]);
+        assert_eq!(second(3), [1, 0xF7F6_F5F4]);
+        assert_eq!(second(4), [1, 0xFFFE_FDFC_FBFA_F9F8]);
+        assert_eq!(second(5), [2, 0xFFFF_FFFF_FFFF_FFF1]);
+        assert_eq!(second(6), [2, 0xFFFF_FFFF_FFFF_F3F2]);
+        assert_eq!(second(7), [2, 0xFFFF_FFFF_F7F6_F5F4]);
+        assert_eq!(second(8), [2, 0xFFFE_FDFC_FBFA_F9F8]);
+        assert_eq!(second(9), [3, 0xF7F6_F5F4]);
+        assert_eq!(second(10), [4, 0xFFFE_FDFC_FBFA_F9F8]);
+    }),
+    ("9, 10 and 11 are tests of the whole list", |l| {
+        let mut image = many_names(1025);
+        let end = 320 + 8 * 1025;
+        image[end..].fill(b'x');
+        assert_eq!(l.counts(&image), Err(9));
+        image[end..].fill(0);
+        assert_eq!(l.counts(&image), Err(10));
+        let first = image[320..328].to_vec();
+        image[328..336].copy_from_slice(&first);
+        assert_eq!(l.counts(&image), Err(10));
+    }),
+    ("empty blocks and chunks have a place but no byte", |l| {
+        for (place, number) in [(0, 1), (255, 1), (256, 0), (290, 0), (512, 0), (513, 1)] {
+            let index = l.counts(&blank(512, place, 0, 256, 1)).err().unwrap_or(0);
+            assert_eq!(index, 6 * number, "index at {place}");
+            let names = l.counts(&blank(512, 256, 2, place, 0)).err().unwrap_or(0);
+            assert_eq!(names, 7 * number, "names at {place}");
+        }
+        for (location, number) in [(255, 12), (256, 0), (300, 0), (330, 0), (512, 0), (513, 16)] {
+            let image = entries(512, &[Slot::bytes(0, 0, location, 0)]);
+            assert_eq!(l.counts(&image).err().unwrap_or(0), number, "chunk at {location}");
+        }
+    }),
+    ("the end of use counts empty things", |l| {
+        let image = entries(500, &[Slot::bytes(0, 0, 500, 0)]);
+        assert_eq!(l.after(&image, &nothing(b"a"), ALL), (image.clone(), Err(29)));
+        let longer = entries(504, &[Slot::bytes(0, 0, 500, 0)]);
+        let (after, stores) = l.after(&longer, &nothing(b"a"), ALL);
+        assert!(stores.is_ok());
+        assert_eq!(l.find(&after, 1, b"a").map(|e| e[2]), Ok(504));
+        let image = blank(512, 512, 0, 256, 1);
+        assert_eq!(l.after(&image, &nothing(b"a"), ALL).1, Err(29));
+    }),
+    ("29 compares the padded position", |l| {
+        let image = entries(385, &[Slot::bytes(0, 0, 384, 1)]);
+        assert_eq!(l.after(&image, &nothing(b"a"), ALL).1, Err(29));
+        for length in 384..400 {
+            assert_eq!(l.after(&fresh(l)[..length], &sheet_a(), ALL).1, Err(29));
+        }
+        assert_eq!(l.after(&fresh(l)[..400], &sheet_a(), ALL).1, Ok([23, 23]));
+    }),
+    ("names fit with no spare zero behind them", |l| {
+        let stores = |listed: usize, name: &[u8]| {
+            let name_before = vec![b'x'; listed - 1];
+            let image = listing(1024, &[&name_before]);
+            let (after, stores) = l.after(&image, &nothing(name), ALL);
+            (stores.unwrap()[1], get64(&after, 24), get64(&after, 32))
+        };
+        assert_eq!(stores(58, b"probe"), (8 + 1 + 1 + 4, 320, 1));
+        assert_eq!(stores(59, b"probe"), (8 + 1 + 18 + 1 + 4, 384, 2));
+        // The list fills its block; no new name, so it stays.
+        assert_eq!(stores(64, &[b'x'; 63]), (8 + 4, 320, 1));
+        assert_eq!(stores(64, b"a"), (8 + 18 + 1 + 4, 384, 2));
+    }),
+    ("0 slots and 0 segments become 2", |l| {
+        let row = sheet(&[Row::bytes(b"a", b"1")]);
+        let image = blank(456, 256, 0, 256, 0);
+        let (after, stores) = l.after(&image, &row, ALL);
+        assert_eq!(stores, Ok([34, 34]));
+        let header = [8, 16, 24, 32].map(|at| get64(&after, at));
+        assert_eq!(header, [392, 2, 264, 2]);
+        assert_eq!(l.bytes(&after, 0, b"a"), Ok(&b"1"[..]));
+        assert_eq!(l.after(&image[..455], &row, ALL).1, Err(29));
+    }),
+    ("blocks double as often as needed", |l| {
+        let rows: Vec<_> =
+            (0..60).map(|n| Row::bytes(format!("twelve {n:05}").as_bytes(), &[n])).collect();
+        let image = l.fresh(16_384, 1, 1).unwrap();
+        let (after, stores) = l.after(&image, &sheet(&rows), ALL);
+        // 60 names of 12 bytes and a zero are 780 bytes: 16 segments. 60 entries: 64 slots.
+        assert_eq!([get64(&after, 16), get64(&after, 32)], [64, 16]);
+        assert_eq!([get64(&after, 24), get64(&after, 8)], [352 + 480, 352 + 480 + 1024]);
+        assert!(stores.is_ok());
+        assert_eq!(l.counts(&after), Ok([1, 60, 60]));
+    }),
+    ("step 1 is never skipped", |l| {
+        let (mut image, _) = l.after(&fresh(l), &sheet_a(), ALL);
+        // Leftovers behind both lists, in blocks that sheet B's append keeps and leaves.
+        Slot { location: 0, ..Slot::bytes(7, 7, 0, 7) }.put(&mut image, 288);
+        image[327..384].fill(b'x');
+        let (after, stores) = l.after(&image, &sheet_b(), ALL);
+        assert_eq!(stores, Ok([43, 43]));
+        assert!(after[288..320].iter().all(|&byte| byte == 0));
+        assert!(after[333..384].iter().all(|&byte| byte == 0));
+    }),
+    ("name bytes before the list's end are kept", |l| {
+        let mut image = listing(512, &[b"probe"]);
+        image[327..384].fill(0xFF);
+        let (stopped, _) = l.after(&image, &nothing(b"probe"), 8 + 1);
+        assert_eq!(&stopped[320..330], b"probe\0\0\0\xFF\xFF");
+        // A list that ends on a word's border leaves its last word alone.
+        let mut image = listing(512, &[b"sevenab"]);
+        image[329..384].fill(0xFF);
+        let (stopped, stores) = l.after(&image, &nothing(b"sevenab"), 8 + 1);
+        assert_eq!(stores, Ok([9, 8 + 7 + 4]));
+        assert_eq!(&stopped[320..338], b"sevenab\0\0\0\0\0\0\0\0\0\xFF\xFF");
+    }),
+    ("a store adds no other name's bytes", |l| {
+        let rows = sheet(&[Row::bytes(b"ab", b""), Row::bytes(b"cd", b"")]);
+        let image = fresh(l);
+        assert_eq!(l.after(&image, &rows, ALL).1, Ok([26, 26]));
+        assert_eq!(&l.after(&image, &rows, 17).0[320..328], b"ab\0\0\0\0\0\0");
+        assert_eq!(&l.after(&image, &rows, 18).0[320..328], b"ab\0cd\0\0\0");
+        let image = listing(512, &[b"abcd"]);
+        let (first, _) = l.after(&image, &nothing(b"position"), 17);
+        assert_eq!(&first[320..336], b"abcd\0\0\0\0ition\0\0\0");
+        assert_eq!(l.counts(&first), Ok([0, 1, 0]));
+        let (second, stores) = l.after(&image, &nothing(b"position"), 18);
+        assert_eq!(&second[320..336], b"abcd\0position\0\0\0");
+        assert_eq!(l.counts(&second), Ok([0, 2, 0]));
+        assert_eq!(stores, Ok([18, 22]));
+        // A name of eight bytes on a word: its zero takes no store.
+        assert_eq!(l.after(&fresh(l), &nothing(b"position"), ALL).1, Ok([21, 21]));
+    }),
+    ("tests come before the limit", |l| {
+        let image = fresh(l);
+        assert_eq!(l.after(&image, &sheet_a(), 0), (image.clone(), Ok([0, 23])));
+        assert_eq!(l.after(&image, &[], 0), (image.clone(), Err(22)));
+        assert_eq!(l.after(&image[..399], &sheet_a(), 0).1, Err(29));
+        assert_eq!(l.after(&image, &sheet_a(), 24).1, Ok([23, 23]));
+    }),
+    ("a refusal leaves the out array, an append clears it", |l| {
+        let mut image = vec![0; 512];
+        const BEFORE: u64 = 0x5555;
+        let (mut two, mut three, mut seven) = ([BEFORE; 2], [BEFORE; 3], [BEFORE; 7]);
+        assert_eq!(l.open(&image, &mut three), 3);
+        assert_eq!(l.name(&image, 0, &mut two), 3);
+        assert_eq!(l.entry(&image, 0, &mut seven), 3);
+        assert_eq!(l.lookup(&image, 0, b"a", &mut seven), 3);
+        assert_eq!(l.chunk(&image, 0, b"a", &mut two), 3);
+        assert_eq!(l.element(&image, 0, b"a", 0, &mut two), 3);
+        assert_eq!((two, three, seven), ([BEFORE; 2], [BEFORE; 3], [BEFORE; 7]));
+        assert_eq!(l.append(&mut image, b"", ALL, &mut two), 3);
+        assert_eq!(two, [0, 0]);
+        two = [BEFORE; 2];
+        let mut image = fresh(l);
+        assert_eq!(l.append(&mut image, b"", ALL, &mut two), 22);
+        assert_eq!(two, [0, 0]);
+    }),
+    ("an empty chunk is a chunk", |l| {
+        let (image, _) = l.after(&fresh(l), &nothing(b"a"), ALL);
+        assert_eq!(l.bytes(&image, 0, b"a"), Ok(&b""[..]));
+        assert_eq!(l.find(&image, 0, b"a").map(|e| e[2]), Ok(384));
+        assert_eq!(l.nth_element(&image, 0, b"a", 0), Err(43));
+        assert_eq!(l.bytes(&image, 1, b"a"), Err(40));
+        assert_eq!(l.bytes(&image, 0, b"b"), Err(41));
+    }),
+    ("odd names are just not listed", |l| {
+        let (image, _) = l.after(&fresh(l), &sheet_a(), ALL);
+        let long = [b'x'; 300];
+        for name in [&b""[..], b"\0", b"probe\0", b"prob", b"probes", b"\0probe", &long] {
+            assert_eq!(l.find(&image, 0, name), Err(41));
+            assert_eq!(l.find(&image, 1, name), Err(40));
+        }
+    }),
+    ("create tests 2, 50, 51, 52 in this order", |l| {
+        let create = |length: usize, text: &[u8], slots: u64, segments: u64| {
+            let mut image = vec![7; length];
+            let both = [(text, &b""[..]), (b"", text)].map(|(application, schema)| {
+                let request = Create { application, schema, schema_version: 1, slots, segments };
+                l.create(&mut image, request)
+            });
+            assert_eq!(both[0], both[1]);
+            assert!(both[0] == 0 || image == vec![7; length], "a refusal changes nothing");
+            both[0]
+        };
+        assert_eq!(create(10, &[b'x'; 64], 65_537, 1), 50);
+        assert_eq!(create(10, b"", 1, 65_537), 50);
+        assert_eq!(create(10, &[b'x'; 64], 65_536, 65_536), 51);
+        assert_eq!(create(512, b"a\0", 1, 1), 51);
+        for length in [0, 1, 8, 255, 256, 351] {
+            assert_eq!(create(length, &[b'x'; 63], 1, 1), 52);
+        }
+        assert_eq!(create(352, &[b'x'; 63], 1, 1), 0);
+        assert_eq!(create(2367, b"", 0, 1), 52);
+        assert_eq!(create(2368, b"", 0, 1), 0);
+        assert_eq!(create(1311, b"", 1, 0), 52);
+        assert_eq!(create(1312, b"", 1, 0), 0);
+        assert_eq!(create(3327, b"", 0, 0), 52);
+        assert_eq!(create(3328, b"", 0, 0), 0);
+        assert_eq!(create(512, b"", ALL, 1), 50);
+        assert_eq!(create(512, b"", 1, 1 << 58), 50);
+    }),
+    ("21 also for empty blocks", |l| {
+        let number = |index, slots, names, segments| {
+            let image = blank(1024, index, slots, names, segments);
+            l.after(&image, &nothing(b"a"), ALL).1.err().unwrap_or(0)
+        };
+        assert_eq!(number(257, 0, 320, 1), 21);
+        assert_eq!(number(256, 1, 321, 0), 21);
+        assert_eq!(number(260, 1, 320, 1), 21);
+        assert_eq!(number(256, 1, 324, 1), 21);
+        assert_eq!(number(264, 1, 328, 1), 0);
+        // It goes before the sheet's numbers.
+        assert_eq!(l.after(&blank(1024, 260, 1, 320, 1), b"", 0).1, Err(21));
+    }),
+    ("block sizes do not wrap", |l| {
+        for slots in [1 << 59, 3 << 59, 1 << 63, ALL] {
+            assert_eq!(l.counts(&blank(512, 256, slots, 320, 1)), Err(6));
+            assert_eq!(l.counts(&blank(512, 256, 2, 320, slots)), Err(7));
+        }
+        assert_eq!(l.counts(&blank(512, 256, 2, 320, 1 << 58)), Err(7));
+        assert_eq!(l.counts(&blank(512, ALL - 31, 1, 320, 1)), Err(6));
+        assert_eq!(l.counts(&blank(512, 256, 2, ALL - 63, 1)), Err(7));
+        assert_eq!(l.counts(&blank(512, ALL, 0, 320, 1)), Err(6));
+    }),
+    ("chunk sizes do not wrap", |l| {
+        let chunk = |n, m, kind| Slot { frame: 0, n, location: 384, m, id: 0, kind, flags: 0 };
+        let verdict = |slot| l.counts(&entries(512, &[slot])).err().unwrap_or(0);
+        assert_eq!(verdict(chunk(1 << 62, 4, 1)), 16);
+        assert_eq!(verdict(chunk(1 << 61, 1, 10)), 16);
+        assert_eq!(verdict(chunk(1 << 32, u32::MAX, 4)), 16);
+        assert_eq!(verdict(chunk(ALL, u32::MAX, 10)), 16);
+        assert_eq!(verdict(chunk(ALL - 383, 1, 1)), 16);
+        assert_eq!(verdict(chunk(ALL, 0, 10)), 0);
+        assert_eq!(verdict(chunk(0, u32::MAX, 10)), 0);
+        let image = entries(512, &[chunk(ALL, 0, 10)]);
+        assert_eq!(l.nth_element(&image, 0, b"a", 0), Err(43));
+        assert_eq!(l.bytes(&image, 0, b"a"), Ok(&b""[..]));
+        let sheet = sheet(&[Row::new(b"a", 1, 1 << 62, 4, b"")]);
+        assert_eq!(l.after(&fresh(l), &sheet, ALL).1, Err(25));
+    }),
+    ("locations are signed for 12 and do not wrap", |l| {
+        let verdict = |location, n| {
+            l.counts(&entries(512, &[Slot::bytes(0, 0, location, n)])).err().unwrap_or(0)
+        };
+        assert_eq!(verdict(1 << 63, 1), 12);
+        assert_eq!(verdict((1 << 63) - 1, 1), 16);
+        assert_eq!(verdict((1 << 63) - 1, 0), 16);
+        assert_eq!(verdict((1 << 63) - 1, (1 << 63) + 385), 16);
+        assert_eq!(verdict(1, 0), 12);
+    }),
+    ("the list ends at location 0 before any test", |l| {
+        let mut image = blank(1024, 256, 3, 352, 1);
+        put_names(&mut image, 352, [&b"a"[..]]);
+        let end = Slot { frame: 99, n: 1, location: 0, m: 1, id: 65535, kind: 99, flags: 1 };
+        put_slots(&mut image, 256, &[end, Slot::bytes(0, 0, 500, 4), Slot::bytes(1, 0, 500, 4)]);
+        assert_eq!(l.counts(&image), Ok([0, 1, 0]));
+        assert_eq!(l.nth_entry(&image, 0), Err(44));
+        let (after, _) = l.after(&image, &nothing(b"a"), ALL);
+        assert_eq!(l.counts(&after), Ok([1, 1, 1]));
+        assert!(after[288..352].iter().all(|&byte| byte == 0));
+    }),
+    ("the first bad entry decides, in it the lowest number", |l| {
+        let verdict = |slots: &[Slot]| l.counts(&entries(512, slots)).err().unwrap_or(0);
+        let far = Slot::bytes(0, 0, 511, 9);
+        assert_eq!(verdict(&[far, Slot::bytes(0, 0, 1, 1)]), 16);
+        let all = Slot { frame: 3, n: 9, location: 2, m: 1, id: 9, kind: 0, flags: 0 };
+        assert_eq!(verdict(&[all]), 12);
+        assert_eq!(verdict(&[Slot { location: 511, ..all }]), 13);
+        assert_eq!(verdict(&[Slot { location: 511, kind: 1, ..all }]), 14);
+        assert_eq!(verdict(&[Slot { location: 511, kind: 1, id: 0, ..all }]), 15);
+        assert_eq!(verdict(&[Slot { location: 300, n: 500, ..far }]), 16);
+    }),
+    ("type 0 is unknown", |l| {
+        let zero = Slot { kind: 0, ..Slot::bytes(0, 0, 384, 1) };
+        assert_eq!(l.counts(&entries(512, &[zero])), Err(13));
+        assert_eq!(l.after(&fresh(l), &sheet(&[Row::new(b"a", 0, 0, 0, b"")]), ALL).1, Err(24));
+    }),
+    ("each of 22 to 27 is tested over all rows", |l| {
+        let number = |sheet: &[u8]| l.after(&fresh(l), sheet, ALL).1.err().unwrap_or(0);
+        assert_eq!(number(&[65, 0, 0, 0]), 22);
+        let long = Row::new(b"a", 1, 9, 1, b"");
+        assert_eq!(number(&sheet(&[long.clone(), Row::new(b"b", 11, 0, 1, b"")])), 24);
+        assert_eq!(number(&sheet(&[Row::bytes(b"\0", b""), long])), 25);
+        let twice = Row::bytes(b"a", b"");
+        assert_eq!(number(&sheet(&[twice.clone(), twice, Row::bytes(b"b\0", b"")])), 26);
+    }),
+    ("rows arrive in any order", |l| {
+        let (image, _) = l.after(&fresh(l), &nothing(b"m"), ALL);
+        let rows = [Row::bytes(b"z", b"zz"), Row::bytes(b"m", b"mmm"), Row::bytes(b"a", b"a")];
+        let (after, stores) = l.after(&image, &sheet(&rows), ALL);
+        // Data by row, new ids by row, entries by id.
+        assert_eq!(
+            l.listing(&after),
+            "frames 2 names 3 entries 4\n0 0 1 0 1 384\n1 0 1 3 1 392\n1 1 1 2 1 384\n1 2 1 1 1 400\n"
+        );
+        let names: Vec<_> = (0..3).map(|n| l.nth_name(&after, n).unwrap()).collect();
+        assert_eq!(names, [b"m", b"z", b"a"]);
+        // Stored from the highest id down, the location at last.
+        let index = get64(&after, 8) as usize;
+        let whole = stores.unwrap()[1];
+        for (behind, missing) in [(1, 32 + 16), (2, 32 + 24), (3, 32 + 8), (4, 32), (5, 64 + 16)] {
+            let (stopped, _) = l.after(&image, &sheet(&rows), whole - behind);
+            let word = index + missing..index + missing + 8;
+            assert_eq!(stopped[word.clone()], [0; 8]);
+            let (stopped, _) = l.after(&image, &sheet(&rows), whole - behind + 1);
+            assert_eq!(stopped[word.clone()], after[word]);
+        }
+    }),
+    ("a name shown by a stopped append is an existing name", |l| {
+        let (stopped, _) = l.after(&fresh(l), &sheet_a(), 22);
+        let (after, stores) = l.after(&stopped, &sheet_a(), ALL);
+        assert_eq!(stores, Ok([22, 22]));
+        assert_eq!(l.listing(&after), "frames 1 names 1 entries 1\n0 0 9 3 1 384\n");
+        let mut image = many_names(1023);
+        image.resize(image.len() + 65_536, 0);
+        let whole = l.after(&image, &nothing(b"one"), 0).1.unwrap()[1];
+        let (stopped, _) = l.after(&image, &nothing(b"one"), whole - 1);
+        assert_eq!(l.counts(&stopped), Ok([0, 1024, 0]));
+        assert_eq!(l.after(&stopped, &nothing(b"two"), ALL).1, Err(28));
+        assert!(l.after(&stopped, &nothing(b"one"), ALL).1.is_ok());
+    }),
+    ("old entries move byte for byte", |l| {
+        let (mut image, _) = l.after(&fresh(l), &sheet_a(), ALL);
+        image[256 + 31] = 0xA5;
+        let (after, _) = l.after(&image, &sheet_b(), ALL);
+        assert_eq!(l.find(&after, 0, b"probe"), Ok([0, 3, 384, 1, 0, 9, 0xA5]));
+        assert_eq!(l.find(&after, 1, b"probe"), Ok([1, 3, 400, 1, 0, 9, 0]));
+    }),
+    ("chunks lie anywhere, blocks in either order", |l| {
+        // Names at 300, index at 401: chunks before, between and behind, sharing bytes.
+        let mut image = blank(600, 401, 4, 300, 1);
+        put_names(&mut image, 300, [&b"a"[..]]);
+        let slots = [(257, 43), (364, 37), (365, 1), (529, 71)]
+            .iter()
+            .enumerate()
+            .map(|(frame, &(at, n))| Slot::bytes(frame as u64, 0, at, n));
+        let slots: Vec<_> = slots.collect();
+        put_slots(&mut image, 401, &slots);
+        assert_eq!(l.counts(&image), Ok([4, 1, 4]));
+        for slot in &slots {
+            assert_eq!(l.find(&image, slot.frame, b"a"), Ok(slot.fields()));
+        }
+        for at in [257 + 43, 364 + 37] {
+            let mut image = image.clone();
+            let frame = usize::from(at == 364 + 37);
+            put64(&mut image, 401 + 32 * frame + 8, slots[frame].n + 1);
+            assert_eq!(l.counts(&image), Err(17));
+        }
+    }),
+    ("create writes all of the header and keeps what lies behind", |l| {
+        let mut image: Vec<u8> = (0..1024).map(|n| n as u8 | 1).collect();
+        let behind = image[384..].to_vec();
+        let request = Create {
+            application: b"regulator",
+            schema: b"night",
+            schema_version: 0x0001_0002,
+            slots: 2,
+            segments: 1,
+        };
+        assert_eq!(l.create(&mut image, request), 0);
+        let mut expected = blank(384, 256, 2, 320, 1);
+        put32(&mut expected, 40, 0x0001_0002);
+        expected[48..57].copy_from_slice(b"regulator");
+        expected[112..117].copy_from_slice(b"night");
+        assert_eq!(image[..384], expected);
+        assert_eq!(image[384..], behind);
+    }),
+    ("an element's number is tested before it is multiplied", |l| {
+        let sheet = sheet(&[Row::new(b"a", 4, 2, 1, &[9; 16])]);
+        let (image, _) = l.after(&fresh(l), &sheet, ALL);
+        assert_eq!(l.nth_element(&image, 0, b"a", 1), Ok([1, 0x0909_0909_0909_0909]));
+        for k in [2, 1 << 61, 1 << 32, (1 << 61) + 1, ALL] {
+            assert_eq!(l.nth_element(&image, 0, b"a", k), Err(43));
+        }
+    }),
+    ("the magic starts with DF", |l| {
+        let mut image = fresh(l);
+        assert_eq!(image[..2], [0xDF, 0x65]);
+        image[..8].reverse();
+        assert_eq!(l.counts(&image), Err(3));
+    }),
+    ("stores of equal content count", |l| {
+        let (image, _) = l.after(&fresh(l), &nothing(b"a"), ALL);
+        // Only zeros over zeros up to the entry.
+        let (stopped, stores) = l.after(&image, &nothing(b"a"), 4 + 8);
+        assert_eq!(stores, Ok([12, 16]));
+        assert_eq!(stopped, image);
+    }),
+    ("names have any length", |l| {
+        let mut image = blank(8192, 256, 2, 320, 20);
+        let (long, longer) = ([b'x'; 64], [b'y'; 1000]);
+        put_names(&mut image, 320, [&long[..], &longer, b"\xC3\xA4"]);
+        put_slots(&mut image, 256, &[Slot::bytes(0, 1, 1700, 4)]);
+        assert_eq!(l.counts(&image), Ok([1, 3, 1]));
+        assert_eq!(l.nth_name(&image, 1), Ok(&longer[..]));
+        assert_eq!(l.bytes(&image, 0, &longer), Ok(&[0; 4][..]));
+        let (after, _) = l.after(&image, &nothing(&[b'z'; 255]), ALL);
+        assert_eq!(l.nth_name(&after, 3), Ok(&[b'z'; 255][..]));
+    }),
+];

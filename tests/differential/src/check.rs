@@ -1,0 +1,286 @@
+//! Two makers of the eight calls side by side, on one image.
+
+use crate::images::Row;
+use crate::lent::{Flush, Lent};
+use crate::library::{Create, Library, Reference};
+use std::fmt::Write;
+
+/// What an `out` array holds before a call, so that one left alone shows.
+const BEFORE: u64 = 0x0BAD_CAFE_0BAD_CAFE;
+
+/// An `out` array between numbers that no call may touch.
+#[repr(C)]
+struct Out<const K: usize> {
+    front: [u64; 2],
+    numbers: [u64; K],
+    behind: [u64; 2],
+}
+
+impl<const K: usize> Out<K> {
+    fn new() -> Out<K> {
+        Out { front: [BEFORE; 2], numbers: [BEFORE; K], behind: [BEFORE; 2] }
+    }
+}
+
+/// So many failures of a test are printed whole; the others are counted.
+const SHOWN: u64 = 3;
+
+/// Names that no list holds, or only by chance.
+pub const ODD_NAMES: [&[u8]; 6] = [b"", b"\0", b"a", b"ab\0", b"no such name", &[b'x'; 300]];
+
+/// The library under test and the plain Rust implementation, each with its own copy of one image.
+/// Each call is made on both, and its number, answers and bytes are compared.
+pub struct Check<'l> {
+    library: &'l dyn Library,
+    theirs: Lent,
+    argument: Lent,
+    ours: Vec<u8>,
+    before: Vec<u8>,
+    flush: Flush,
+    pub comparisons: u64,
+    pub failures: u64,
+    /// How often each number was the answer, 0 for none.
+    pub met: [u64; 64],
+    /// Moments of runs of appends looked at.
+    pub moments: u64,
+    /// Whether to print failures.
+    pub show: bool,
+}
+
+impl<'l> Check<'l> {
+    pub fn new(library: &'l dyn Library) -> Check<'l> {
+        Check {
+            library,
+            theirs: Lent::new(1 << 16),
+            argument: Lent::new(1 << 16),
+            ours: Vec::new(),
+            before: Vec::new(),
+            flush: Flush::End,
+            comparisons: 0,
+            failures: 0,
+            met: [0; 64],
+            moments: 0,
+            show: true,
+        }
+    }
+
+    pub fn library(&self) -> &'l dyn Library {
+        self.library
+    }
+
+    /// Takes an image for the calls that follow.
+    pub fn load(&mut self, image: &[u8]) {
+        self.flush = match self.flush {
+            Flush::Start => Flush::End,
+            Flush::End => Flush::Start,
+        };
+        self.theirs.lend(image, self.flush);
+        self.ours.clear();
+        self.ours.extend_from_slice(image);
+    }
+
+    pub fn image(&self) -> &[u8] {
+        &self.ours
+    }
+
+    /// Compares what both answered, and gives the plain implementation's answer; `None` is a refusal.
+    fn judge<const K: usize>(
+        &mut self,
+        (number, theirs): (u64, Out<K>),
+        (expected, ours): (u64, Out<K>),
+        call: impl FnOnce() -> String,
+    ) -> Option<[u64; K]> {
+        self.comparisons += 1;
+        self.met[expected as usize] += 1;
+        let strayed = [theirs.front, theirs.behind] != [[BEFORE; 2]; 2];
+        let (theirs, ours) = ((number, theirs.numbers), (expected, ours.numbers));
+        if theirs != ours || strayed {
+            let said = |(number, out): (u64, [u64; K])| format!("{number} {out:?}");
+            let image = hex(&self.ours);
+            self.fail(|| {
+                let (call, theirs, ours) = (call(), said(theirs), said(ours));
+                let stray = if strayed { ", and wrote beside out" } else { "" };
+                format!("{call}\n  answers  {theirs}{stray}\n  expected {ours}\n  image {image}")
+            });
+        }
+        (ours.0 == 0).then_some(ours.1)
+    }
+
+    pub fn fail(&mut self, what: impl FnOnce() -> String) {
+        self.failures += 1;
+        if self.show && self.failures <= SHOWN {
+            println!("\n{}", what());
+        }
+    }
+
+    pub fn open(&mut self) -> Option<[u64; 3]> {
+        let (mut theirs, mut ours) = (Out::<3>::new(), Out::new());
+        let number = self.library.open(self.theirs.bytes(), &mut theirs.numbers);
+        let expected = Reference.open(&self.ours, &mut ours.numbers);
+        self.judge((number, theirs), (expected, ours), || "open".into())
+    }
+
+    pub fn name(&mut self, n: u64) -> Option<[u64; 2]> {
+        let (mut theirs, mut ours) = (Out::<2>::new(), Out::new());
+        let number = self.library.name(self.theirs.bytes(), n, &mut theirs.numbers);
+        let expected = Reference.name(&self.ours, n, &mut ours.numbers);
+        self.judge((number, theirs), (expected, ours), || format!("name {n}"))
+    }
+
+    pub fn entry(&mut self, n: u64) -> Option<[u64; 7]> {
+        let (mut theirs, mut ours) = (Out::<7>::new(), Out::new());
+        let number = self.library.entry(self.theirs.bytes(), n, &mut theirs.numbers);
+        let expected = Reference.entry(&self.ours, n, &mut ours.numbers);
+        self.judge((number, theirs), (expected, ours), || format!("entry {n}"))
+    }
+
+    pub fn lookup(&mut self, frame: u64, name: &[u8]) -> Option<[u64; 7]> {
+        let (mut theirs, mut ours) = (Out::<7>::new(), Out::new());
+        let lent = self.argument.lend(name, self.flush);
+        let number = self.library.lookup(self.theirs.bytes(), frame, lent, &mut theirs.numbers);
+        let expected = Reference.lookup(&self.ours, frame, name, &mut ours.numbers);
+        let call = || format!("lookup frame {frame} name {}", hex(name));
+        self.judge((number, theirs), (expected, ours), call)
+    }
+
+    /// A lookup whose name is a part of the image itself, as a caller has it from the n-th name.
+    pub fn lookup_listed(&mut self, frame: u64, [start, length]: [u64; 2]) -> Option<[u64; 7]> {
+        let (mut theirs, mut ours) = (Out::<7>::new(), Out::new());
+        let name = start as usize..(start + length) as usize;
+        let image = self.theirs.bytes();
+        let number = self.library.lookup(image, frame, &image[name.clone()], &mut theirs.numbers);
+        let image = &self.ours;
+        let expected = Reference.lookup(image, frame, &image[name.clone()], &mut ours.numbers);
+        let call = || format!("lookup frame {frame} name at {name:?}");
+        self.judge((number, theirs), (expected, ours), call)
+    }
+
+    pub fn chunk(&mut self, frame: u64, name: &[u8]) -> Option<[u64; 2]> {
+        let (mut theirs, mut ours) = (Out::<2>::new(), Out::new());
+        let lent = self.argument.lend(name, self.flush);
+        let number = self.library.chunk(self.theirs.bytes(), frame, lent, &mut theirs.numbers);
+        let expected = Reference.chunk(&self.ours, frame, name, &mut ours.numbers);
+        let call = || format!("chunk frame {frame} name {}", hex(name));
+        self.judge((number, theirs), (expected, ours), call)
+    }
+
+    pub fn element(&mut self, frame: u64, name: &[u8], k: u64) -> Option<[u64; 2]> {
+        let (mut theirs, mut ours) = (Out::<2>::new(), Out::new());
+        let lent = self.argument.lend(name, self.flush);
+        let number = self.library.element(self.theirs.bytes(), frame, lent, k, &mut theirs.numbers);
+        let expected = Reference.element(&self.ours, frame, name, k, &mut ours.numbers);
+        let call = || format!("element frame {frame} name {} k {k}", hex(name));
+        self.judge((number, theirs), (expected, ours), call)
+    }
+
+    pub fn create(&mut self, request: Create) -> Option<[u64; 0]> {
+        self.before.clone_from(&self.ours);
+        let number = self.library.create(self.theirs.bytes_mut(), request);
+        let expected = Reference.create(&mut self.ours, request);
+        let call = || format!("create {request:?}");
+        let answer = self.judge((number, Out::<0>::new()), (expected, Out::new()), call);
+        self.judge_bytes(call);
+        answer
+    }
+
+    pub fn append(&mut self, sheet: &[u8], limit: u64) -> Option<[u64; 2]> {
+        let (mut theirs, mut ours) = (Out::<2>::new(), Out::new());
+        self.before.clone_from(&self.ours);
+        let lent = self.argument.lend(sheet, self.flush);
+        let number = self.library.append(self.theirs.bytes_mut(), lent, limit, &mut theirs.numbers);
+        if self.argument.bytes() != sheet || !self.argument.margin_kept() {
+            self.fail(|| "append wrote the sheet".into());
+        }
+        let expected = Reference.append(&mut self.ours, sheet, limit, &mut ours.numbers);
+        let call = || format!("append limit {limit} sheet {}", hex(sheet));
+        let answer = self.judge((number, theirs), (expected, ours), call);
+        self.judge_bytes(call);
+        answer
+    }
+
+    /// Compares every byte after a call that may write, and sets both sides equal again.
+    fn judge_bytes(&mut self, call: impl FnOnce() -> String) {
+        let kept = self.theirs.margin_kept();
+        if self.theirs.bytes() == self.ours && kept {
+            return;
+        }
+        let mut differ = String::new();
+        for (at, (theirs, ours)) in self.theirs.bytes().iter().zip(&self.ours).enumerate() {
+            if theirs != ours && differ.len() < 200 {
+                let _ = write!(differ, " {at}: {theirs:02x} expected {ours:02x},");
+            }
+        }
+        let before = hex(&self.before);
+        self.fail(|| format!("{}\n  bytes{differ} margin kept {kept}\n  image {before}", call()));
+        self.theirs.lend(&self.ours, self.flush);
+    }
+
+    /// Every reading call, on everything that the image lists, on `names`, and beside them.
+    pub fn read_all(&mut self, names: &[Vec<u8>]) {
+        let [frames, listed, entries] = self.open().unwrap_or([0; 3]);
+        for n in (0..=listed).chain([u64::MAX]) {
+            if let Some(place) = self.name(n) {
+                self.lookup_listed(frames.saturating_sub(1), place);
+            }
+        }
+        for n in (0..=entries).chain([u64::MAX]) {
+            self.entry(n);
+        }
+        let own: Vec<Vec<u8>> = (0..listed)
+            .map_while(|n| crate::reference::name(&self.ours, n).map(<[u8]>::to_vec).ok())
+            .filter(|name| !names.contains(name))
+            .collect();
+        for frame in 0..frames {
+            for name in names.iter().chain(&own) {
+                self.read(frame, name);
+            }
+        }
+        for frame in [0, frames, u64::MAX] {
+            for name in ODD_NAMES.into_iter().chain(names.iter().take(2).map(Vec::as_slice)) {
+                self.lookup(frame, name);
+            }
+            self.read(frame, b"no such name");
+        }
+        if self.theirs.bytes() != self.ours || !self.theirs.margin_kept() {
+            let image = hex(&self.ours);
+            self.fail(|| format!("a reading call wrote\n  image {image}"));
+        }
+    }
+
+    /// Lookup, chunk and some elements of one name in one frame.
+    pub fn read(&mut self, frame: u64, name: &[u8]) -> Option<[u64; 7]> {
+        let found = self.lookup(frame, name);
+        self.chunk(frame, name);
+        // The first, the last, the one behind and one whose product with a size wraps.
+        let count = found.map_or(0, |entry| entry[1].wrapping_mul(entry[3]));
+        for k in [0, count.wrapping_sub(1), count, (1 << 61) + 1] {
+            self.element(frame, name, k);
+        }
+        found
+    }
+}
+
+/// Hex, with long runs of zeros told as such.
+pub fn hex(bytes: &[u8]) -> String {
+    let mut text = format!("[{}] ", bytes.len());
+    let mut rest = bytes;
+    while let Some(first) = rest.first() {
+        let zeros = rest.iter().take_while(|&&byte| byte == 0).count();
+        if zeros >= 16 {
+            let _ = write!(text, " 00*{zeros} ");
+            rest = &rest[zeros..];
+        } else {
+            let _ = write!(text, "{first:02x}");
+            rest = &rest[1..];
+        }
+        if text.len() > 20_000 {
+            return text + " ..";
+        }
+    }
+    text
+}
+
+/// The names of rows.
+pub fn names_of(rows: &[Row]) -> Vec<Vec<u8>> {
+    rows.iter().map(|row| row.name.clone()).collect()
+}

@@ -1,0 +1,177 @@
+//! "A run of appends", word for word, on the library under test alone.
+
+use crate::ask::Ask;
+use crate::check::hex;
+use crate::images::{sheet, Row};
+use crate::library::Library;
+
+/// A call of a run: rows that make a lawful sheet, or any bytes; and its limit.
+pub struct Call {
+    pub rows: Option<Vec<Row>>,
+    pub sheet: Vec<u8>,
+    pub limit: u64,
+}
+
+impl Call {
+    pub fn of(rows: Vec<Row>, limit: u64) -> Call {
+        Call { sheet: sheet(&rows), rows: Some(rows), limit }
+    }
+}
+
+/// What a lookup finds: an entry in all its fields, and its chunk's bytes.
+type Found = Option<([u64; 7], Vec<u8>)>;
+
+/// What was found in a frame when it was first there, for each name; `None` where nothing was.
+type Frame = Vec<Found>;
+
+pub struct Run<'l> {
+    library: &'l dyn Library,
+    /// Every name that the run may ask for: listed at the start, of any sheet, and of none.
+    names: Vec<Vec<u8>>,
+    frames: Vec<Frame>,
+    pub moments: u64,
+}
+
+impl<'l> Run<'l> {
+    /// Makes the calls in turn from an image that opens, and looks at each moment. The error says
+    /// which of the paper's words failed, and on what.
+    pub fn make(library: &'l dyn Library, start: &[u8], calls: &[Call]) -> Result<u64, String> {
+        let counts = library.counts(start);
+        let [frames, names, _] = counts.map_err(|n| format!("the start is refused with {n}"))?;
+        let listed = (0..names).map(|n| library.nth_name(start, n).unwrap_or_default().to_vec());
+        let rows = calls.iter().flat_map(|call| call.rows.iter().flatten());
+        let mut all: Vec<_> = listed.chain(rows.map(|row| row.name.clone())).collect();
+        all.push(b"no such name".to_vec());
+        all.sort();
+        all.dedup();
+
+        let mut run = Run { library, names: all, frames: Vec::new(), moments: 1 };
+        for frame in 0..frames {
+            let found = run.look(start, frame)?;
+            run.frames.push(found);
+        }
+        let mut image = start.to_vec();
+        for (number, call) in calls.iter().enumerate() {
+            let before = image.clone();
+            run.call(&mut image, call).map_err(|what| {
+                let (image, sheet) = (hex(&before), hex(&call.sheet));
+                format!(
+                    "run of appends, call {number}, limit {}: {what}\n  image {image}\n  sheet {sheet}",
+                    call.limit
+                )
+            })?;
+        }
+        Ok(run.moments)
+    }
+
+    fn call(&mut self, image: &mut Vec<u8>, call: &Call) -> Result<(), String> {
+        let before = image.clone();
+        let stores = self.library.put(image, &call.sheet, call.limit);
+        let Ok([done, whole]) = stores else {
+            return if *image == before { Ok(()) } else { Err("a refusal wrote".into()) };
+        };
+        if done != whole.min(call.limit) {
+            return Err(format!("done {done} of {whole}"));
+        }
+        let Some(rows) = &call.rows else {
+            // Damaged bytes that are a lawful sheet after all: only the calls around them look.
+            if done == whole {
+                let found = self.look(image, self.frames.len() as u64)?;
+                self.frames.push(found);
+            }
+            return self.moment(image).map_err(|what| format!("after {done} stores: {what}"));
+        };
+        let mut last = before.clone();
+        for store in 1..=done {
+            let (next, _) = self.library.after(&before, &call.sheet, store);
+            one_word(&last, &next).map_err(|what| format!("store {store}: {what}"))?;
+            // Of a long append the ends and every seventh moment.
+            if store < 64 || store + 64 > whole || store % 7 == 0 {
+                if store == whole {
+                    let frame = self.requested(&next, rows)?;
+                    self.frames.push(frame);
+                }
+                self.moment(&next)
+                    .map_err(|what| format!("after {store} stores of {whole}: {what}"))?;
+            }
+            last = next;
+        }
+        if last == *image {
+            Ok(())
+        } else {
+            Err("a stop leaves other bytes than the limit".into())
+        }
+    }
+
+    /// Found stays found, with the same entry and bytes; none found stays none; and the number of
+    /// frames is the start's and one for each last store made.
+    fn moment(&mut self, image: &[u8]) -> Result<(), String> {
+        self.moments += 1;
+        let counts = self.library.counts(image);
+        let [frames, ..] = counts.map_err(|number| format!("refused with {number}"))?;
+        if frames != self.frames.len() as u64 {
+            return Err(format!("{frames} frames, expected {}", self.frames.len()));
+        }
+        for (number, frame) in self.frames.iter().enumerate() {
+            let now = self.look(image, number as u64)?;
+            if let Some(at) = (0..now.len()).find(|&at| now[at] != frame[at]) {
+                let (name, then, now) = (hex(&self.names[at]), &frame[at], &now[at]);
+                return Err(format!("frame {number} name {name}: {now:?}, before {then:?}"));
+            }
+        }
+        for name in &self.names {
+            let found = self.library.find(image, frames, name);
+            if found != Err(40) {
+                return Err(format!("behind the last frame {found:?}"));
+            }
+        }
+        Ok(())
+    }
+
+    /// What each name finds in a frame that is there.
+    fn look(&self, image: &[u8], frame: u64) -> Result<Frame, String> {
+        let find = |name: &Vec<u8>| match self.library.find(image, frame, name) {
+            Ok(entry) => match self.library.bytes(image, frame, name) {
+                Ok(bytes) => Ok(Some((entry, bytes.to_vec()))),
+                Err(number) => {
+                    Err(format!("frame {frame}: found, its bytes refused with {number}"))
+                }
+            },
+            Err(41 | 42) => Ok(None),
+            Err(number) => Err(format!("frame {frame}: lookup refused with {number}")),
+        };
+        self.names.iter().map(find).collect()
+    }
+
+    /// The new frame, complete and exactly as requested.
+    fn requested(&self, image: &[u8], rows: &[Row]) -> Result<Frame, String> {
+        let number = self.frames.len() as u64;
+        let frame = self.look(image, number)?;
+        for (name, found) in self.names.iter().zip(&frame) {
+            let row = rows.iter().find(|row| row.name == *name);
+            let good = match (row, found) {
+                (None, None) => true,
+                (Some(row), Some((entry, bytes))) => {
+                    let asked = [number, row.n, row.m.into(), row.kind.into()];
+                    [entry[0], entry[1], entry[3], entry[5]] == asked && *bytes == row.data
+                }
+                _ => false,
+            };
+            if !good {
+                return Err(format!("new frame, name {}: {found:?}, asked {row:?}", hex(name)));
+            }
+        }
+        Ok(frame)
+    }
+}
+
+/// A store changes nothing but one word on a multiple of 8.
+fn one_word(before: &[u8], after: &[u8]) -> Result<(), String> {
+    let words = before.chunks(8).zip(after.chunks(8)).enumerate();
+    let changed: Vec<_> = words.filter(|(_, (a, b))| a != b).map(|(n, _)| 8 * n).collect();
+    match changed[..] {
+        [] => Ok(()),
+        [at] if at + 8 <= before.len() => Ok(()),
+        _ => Err(format!("the words at {changed:?} changed")),
+    }
+}

@@ -1,0 +1,393 @@
+//! Random images and sheets: lawful, odd and damaged.
+
+use crate::images::{blank, put32, put64, put_names, put_slots, sheet, size, Row, Slot};
+use crate::library::{Create, Library, Reference};
+use crate::random::Rng;
+
+/// Names whose lengths lie around words and segments; some begin alike.
+const NAMES: [&[u8]; 20] = [
+    b"a",
+    b"b",
+    b"ab",
+    b"abc",
+    b"fan",
+    b"probe",
+    b"heater",
+    b"setting",
+    b"position",
+    b"positions",
+    b"po",
+    b"\xC3\xA4\xE2\x82\xAC",
+    b"\xFF",
+    b"fifteen bytes..",
+    b"sixteen bytes...",
+    b"seventeen bytes..",
+    &[b'x'; 62],
+    &[b'x'; 63],
+    &[b'x'; 64],
+    &[b'y'; 255],
+];
+
+pub fn name(rng: &mut Rng) -> Vec<u8> {
+    match rng.below(10) {
+        0 => (0..rng.between(1, 24)).map(|_| rng.byte().max(1)).collect(),
+        // Long ones are rarer, they fill small images at once.
+        1 => rng.pick(&NAMES).to_vec(),
+        _ => rng.pick(&NAMES[..16]).to_vec(),
+    }
+}
+
+/// Different names.
+pub fn names(rng: &mut Rng, count: usize) -> Vec<Vec<u8>> {
+    let mut names = Vec::new();
+    while names.len() < count {
+        let next = name(rng);
+        if !names.contains(&next) {
+            names.push(next);
+        }
+    }
+    names
+}
+
+/// A fresh image of a random shape, dirty behind its blocks.
+pub fn fresh(rng: &mut Rng) -> Vec<u8> {
+    let slots = rng.pick(&[1, 1, 2, 3, 4, 7, 16]);
+    let segments = rng.pick(&[1, 1, 2, 3, 5]);
+    let used = 256 + 32 * slots + 64 * segments;
+    let behind = rng.pick(&[0, 8, 100, 500, 1000, 3000]) + rng.below(64);
+    let mut image = rng.bytes(used + behind);
+    let texts = [rng.below(64), rng.below(64)].map(|length| vec![b't'; length]);
+    let request = Create {
+        application: &texts[0],
+        schema: &texts[1],
+        schema_version: rng.number() as u32,
+        slots: slots as u64,
+        segments: segments as u64,
+    };
+    assert_eq!(Reference.create(&mut image, request), 0);
+    image
+}
+
+/// N, M and type of a chunk of at most `room` bytes.
+fn shape(rng: &mut Rng, room: usize) -> (u64, u32, u8) {
+    let kind = rng.between(1, 10) as u8;
+    let columns = rng.pick(&[1, 1, 1, 2, 3, 4]);
+    match rng.below(12) {
+        // Honestly empty, however large the other number is.
+        0 => (rng.border(), 0, kind),
+        1 => (0, rng.number() as u32, kind),
+        2 => (0, 1, kind),
+        _ => (rng.below(room / (size(kind) * columns) + 1) as u64, columns as u32, kind),
+    }
+}
+
+pub fn row(rng: &mut Rng, name: Vec<u8>) -> Row {
+    let room = rng.pick(&[9, 17, 40, 100]);
+    let (n, m, kind) = shape(rng, room);
+    let data = rng.bytes((n.wrapping_mul(m.into()) as usize).wrapping_mul(size(kind)));
+    Row { name, kind, n, m, data }
+}
+
+/// Rows with different names, some of them of `known`, in any order.
+pub fn rows(rng: &mut Rng, known: &[Vec<u8>]) -> Vec<Row> {
+    let count = match rng.below(20) {
+        0 => rng.between(5, 64),
+        _ => rng.between(1, 4),
+    };
+    let mut chosen: Vec<Vec<u8>> = Vec::new();
+    while chosen.len() < count {
+        let next = match rng.below(8) {
+            0..=4 if !known.is_empty() => known[rng.below(known.len())].clone(),
+            5 => format!("name {}", rng.below(200)).into_bytes(),
+            _ => name(rng),
+        };
+        if !chosen.contains(&next) {
+            chosen.push(next);
+        } else if rng.chance(20) {
+            // The pool may be used up.
+            chosen.push(format!("other {}", chosen.len()).into_bytes());
+        }
+    }
+    chosen.into_iter().map(|name| row(rng, name)).collect()
+}
+
+/// A limit of stores, of all kinds.
+pub fn limit(rng: &mut Rng) -> u64 {
+    match rng.below(10) {
+        0..=3 => u64::MAX,
+        4 => rng.border(),
+        5 => rng.below(8) as u64,
+        _ => rng.below(120) as u64,
+    }
+}
+
+/// Where the parts of an image lie, so that damage can be aimed.
+pub struct Layout {
+    pub image: Vec<u8>,
+    pub names: Vec<Vec<u8>>,
+    index: (usize, usize),
+    name_block: (usize, usize),
+    entries: usize,
+    list_end: usize,
+}
+
+/// An image built field by field that opens, however odd: blocks in either order, at odd places,
+/// touching, empty or at the slice's end; chunks before, between and behind them, sharing bytes,
+/// empty anywhere; leftovers behind both lists.
+pub fn odd(rng: &mut Rng) -> Layout {
+    let slots = rng.pick(&[0, 1, 1, 2, 2, 3, 4, 6]);
+    let segments = rng.pick(&[0, 1, 1, 1, 2, 3]);
+    let unit = if rng.chance(70) { 8 } else { 1 };
+    let gap = |rng: &mut Rng| match rng.below(3) {
+        0 => 0,
+        _ => unit * rng.below(48),
+    };
+    let sizes = [32 * slots, 64 * segments];
+    let first = usize::from(rng.chance(50));
+    let second = 1 - first;
+    let mut starts = [0; 2];
+    starts[first] = 256 + gap(rng);
+    starts[second] = starts[first] + sizes[first] + gap(rng);
+    let used = starts[second] + sizes[second];
+    // At the slice's end, or with room behind.
+    let length = match rng.below(4) {
+        0 => used,
+        1 => used + rng.below(16),
+        _ => used + rng.below(1200),
+    };
+    let [index, name_block] = starts;
+    let mut image = if rng.chance(50) { rng.bytes(length) } else { vec![0; length] };
+    if image.len() < 256 {
+        image.resize(256, 0);
+    }
+    let reserved = image[176..256].to_vec();
+    let header = blank(256, index as u64, slots as u64, name_block as u64, segments as u64);
+    image[..256].copy_from_slice(&header);
+    image[176..256].copy_from_slice(&reserved);
+    image[40] = rng.byte();
+
+    // Names, then nothing; sometimes the last one fills the block.
+    let block = name_block..name_block + sizes[1];
+    image[block.clone()].fill(0);
+    let mut at = block.start;
+    let mut listed = Vec::new();
+    let wanted = rng.pick(&[0, 1, 2, 3, 3, 4, 20]);
+    for name in names(rng, wanted) {
+        if at + name.len() < block.end {
+            image[at..at + name.len()].copy_from_slice(&name);
+            at += name.len() + 1;
+            listed.push(name);
+        }
+    }
+    if at < block.end && rng.chance(15) {
+        let name = vec![b'z'; block.end - at - 1];
+        if !name.is_empty() {
+            image[at..block.end - 1].copy_from_slice(&name);
+            at = block.end;
+            listed.push(name);
+        }
+    }
+    if at < block.end && rng.chance(60) {
+        // Leftovers: the list ends at the zero.
+        rng.fill(&mut image[at + 1..block.end]);
+    }
+
+    let free: Vec<(usize, usize)> = {
+        let mut blocks: Vec<_> = [0, 1].map(|b| (starts[b], starts[b] + sizes[b])).into();
+        blocks.retain(|(start, end)| start < end);
+        blocks.sort_unstable();
+        let mut free = Vec::new();
+        let mut at = 256;
+        for (start, end) in blocks {
+            free.push((at, start));
+            at = end;
+        }
+        free.push((at, image.len()));
+        free
+    };
+    let mut entries = Vec::new();
+    let mut next = (0_u64, 0_usize);
+    while entries.len() < slots && !listed.is_empty() && rng.chance(80) {
+        let (mut frame, mut id) = next;
+        id += rng.below(2);
+        if id >= listed.len() || rng.chance(30) && !entries.is_empty() {
+            (frame, id) =
+                (entries.last().map_or(0, |e: &Slot| e.frame + 1), rng.below(listed.len()));
+        }
+        let (start, end) = rng.pick(&free);
+        let location = start + rng.below(end - start + 1);
+        let room = rng.pick(&[end - location, (end - location).min(20)]);
+        let (n, m, kind) = shape(rng, room);
+        let empty = n == 0 || m == 0;
+        let location = if empty { rng.between(256, image.len()) } else { location };
+        let flags = if rng.chance(30) { rng.byte() } else { 0 };
+        entries.push(Slot { frame, n, location: location as u64, m, id: id as u16, kind, flags });
+        next = (frame, id + 1);
+    }
+    put_slots(&mut image, index, &entries);
+    for behind in entries.len()..slots {
+        let at = index + 32 * behind;
+        if rng.chance(50) && behind > entries.len() && !entries.is_empty() {
+            // A leftover that would be lawful.
+            let last = entries[entries.len() - 1];
+            Slot { frame: last.frame + 1, ..last }.put(&mut image, at);
+        } else if rng.chance(50) {
+            rng.fill(&mut image[at..at + 32]);
+        }
+        if behind == entries.len() {
+            put64(&mut image, at + 16, 0);
+        }
+    }
+    let (index, name_block) = ((index, sizes[0]), (name_block, sizes[1]));
+    Layout { image, names: listed, index, name_block, entries: entries.len(), list_end: at }
+}
+
+impl Layout {
+    /// Changes one or two fields to numbers near borders.
+    pub fn bend(&mut self, rng: &mut Rng) {
+        for _ in 0..rng.between(1, 2) {
+            if self.entries > 0 && rng.chance(60) {
+                let slot = self.index.0 + 32 * rng.below(self.entries);
+                let near = self.near(rng);
+                match rng.below(8) {
+                    0 => put64(&mut self.image, slot, rng.pick(&[0, 1, 2, 3, u64::MAX])),
+                    1 => put64(&mut self.image, slot + 8, rng.border()),
+                    2 => put64(&mut self.image, slot + 16, near),
+                    3 => self.image[slot + 24 + rng.below(4)] = rng.byte(),
+                    4 => self.image[slot + 28 + rng.below(2)] = rng.pick(&[0, 1, 2, 3, 255]),
+                    5 => self.image[slot + 30] = rng.below(14) as u8,
+                    6 => {
+                        // A product of 2^64 or little more, for some types.
+                        let columns = rng.between(0, 4);
+                        let near = (1 << (64 - columns - rng.below(4))) + rng.below(3) as u128;
+                        put64(&mut self.image, slot + 8, near as u64);
+                        put32(&mut self.image, slot + 24, 1 << columns);
+                    }
+                    _ => {
+                        put64(&mut self.image, slot + 8, rng.border());
+                        put64(&mut self.image, slot + 16, near);
+                    }
+                }
+            } else if rng.chance(15) {
+                self.bend_names(rng);
+            } else {
+                let near = self.near(rng);
+                match rng.below(6) {
+                    0 => put64(&mut self.image, 8, near),
+                    1 => put64(&mut self.image, 16, rng.border()),
+                    2 => put64(&mut self.image, 24, near),
+                    3 => put64(&mut self.image, 32, rng.border()),
+                    4 => put64(&mut self.image, 16, self.index.1 as u64 / 32 + 1),
+                    _ => put64(&mut self.image, 32, self.name_block.1 as u64 / 64 + 1),
+                }
+            }
+        }
+    }
+
+    /// A name again behind the others, or one that is not closed.
+    fn bend_names(&mut self, rng: &mut Rng) {
+        let end = self.name_block.0 + self.name_block.1;
+        if rng.chance(30) {
+            self.image[self.list_end..end].fill(b'u');
+        } else if !self.names.is_empty() {
+            let name = &self.names[rng.below(self.names.len())];
+            if self.list_end + name.len() < end {
+                put_names(&mut self.image, self.list_end, [&name[..]]);
+            }
+        }
+    }
+
+    /// A place near the end of a part, or of the numbers.
+    fn near(&self, rng: &mut Rng) -> u64 {
+        let (index, names) = (self.index, self.name_block);
+        let ends = [256, index.0, index.0 + index.1, names.0, names.0 + names.1, self.image.len()];
+        match rng.below(3) {
+            0 => rng.border(),
+            _ => (rng.pick(&ends) as u64).wrapping_add(rng.below(20) as u64).wrapping_sub(10),
+        }
+    }
+
+    /// Changes one to three bytes of header, blocks and lists.
+    pub fn damage(&mut self, rng: &mut Rng) {
+        for _ in 0..rng.between(1, 3) {
+            let (start, length) = match rng.below(8) {
+                0 => (0, 48),
+                1 => (8, 32),
+                2 => (48, 128),
+                3 | 4 => (self.index.0, (32 * self.entries).max(self.index.1.min(32))),
+                5 => self.index,
+                _ => self.name_block,
+            };
+            if length > 0 && start + length <= self.image.len() {
+                damage(rng, &mut self.image[start..start + length]);
+            }
+        }
+    }
+}
+
+/// Changes one byte.
+pub fn damage(rng: &mut Rng, bytes: &mut [u8]) {
+    let at = rng.below(bytes.len());
+    let byte = &mut bytes[at];
+    *byte = match rng.below(6) {
+        0 => 0,
+        1 => 255,
+        2 => *byte ^ (1 << rng.below(8)),
+        3 => byte.wrapping_add(1),
+        4 => byte.wrapping_sub(1),
+        _ => rng.byte(),
+    };
+}
+
+/// A lawful sheet, changed in one to three places.
+pub fn damaged_sheet(rng: &mut Rng, rows: &[Row]) -> Vec<u8> {
+    let mut sheet = sheet(rows);
+    for _ in 0..rng.between(1, 3) {
+        let table = (4 + 16 * rows.len()).min(sheet.len());
+        match rng.below(8) {
+            0 => sheet.truncate(rng.below(sheet.len() + 1)),
+            1 => {
+                let more = rng.between(1, 9);
+                sheet.extend(rng.bytes(more));
+            }
+            2 if table >= 4 => damage(rng, &mut sheet[..4]),
+            3..=5 if table > 4 => damage(rng, &mut sheet[4..table]),
+            _ if !sheet.is_empty() => damage(rng, &mut sheet),
+            _ => {}
+        }
+    }
+    sheet
+}
+
+/// A sheet whose rows have borders for numbers, zeros in names, equal names and unknown types.
+pub fn bent_sheet(rng: &mut Rng, known: &[Vec<u8>]) -> Vec<u8> {
+    let mut rows = rows(rng, known);
+    let count = rows.len();
+    for _ in 0..rng.between(1, 2) {
+        let other = rows[rng.below(count)].name.clone();
+        let row = &mut rows[rng.below(count)];
+        match rng.below(8) {
+            0 => row.n = rng.border(),
+            1 => row.m = rng.border() as u32,
+            2 => row.kind = rng.below(14) as u8,
+            3 => row.name.clear(),
+            4 if !row.name.is_empty() => {
+                let at = rng.below(row.name.len());
+                row.name[at] = 0;
+            }
+            5 => row.name = other,
+            // Product 2^64: as many bytes as none.
+            6 => (row.n, row.m, row.data) = (1 << 62, 4, Vec::new()),
+            _ => {}
+        }
+    }
+    let mut sheet = sheet(&rows);
+    if rng.chance(15) {
+        put64(&mut sheet, 4 + 16 * rng.below(count), rng.border());
+    }
+    if rng.chance(10) {
+        let count = rng.pick(&[0, 1, 63, 64, 65, 66, 255, 1 << 16, 1 << 28, u32::MAX]);
+        sheet[..4].copy_from_slice(&count.to_le_bytes());
+    }
+    sheet
+}

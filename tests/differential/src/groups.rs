@@ -1,0 +1,468 @@
+//! The random groups of the driver. Each is a round that a seed repeats.
+
+use crate::check::{names_of, Check};
+use crate::demand3::{Call, Run};
+use crate::generate::{self, Layout};
+use crate::images::{blank, put32, put64, put_names, put_slots, sheet, Row, Slot, MAGIC};
+use crate::library::{Create, Library, Reference};
+use crate::random::Rng;
+
+pub struct Group {
+    pub name: &'static str,
+    /// Rounds without a time given; 1 for a group that is not random.
+    pub rounds: u64,
+    pub round: fn(&mut Check, &mut Rng),
+}
+
+const fn group(name: &'static str, rounds: u64, round: fn(&mut Check, &mut Rng)) -> Group {
+    Group { name, rounds, round }
+}
+
+pub const GROUPS: &[Group] = &[
+    group("lengths from 0 to 300", 1, lengths),
+    group("create", 20_000, create),
+    group("fresh images of many shapes", 3000, fresh),
+    group("random runs of appends", 6000, runs),
+    group("every limit of small appends", 300, every_limit),
+    group("images built field by field", 12_000, odd),
+    group("fields near borders", 60_000, bent),
+    group("one to three damaged bytes", 60_000, damaged),
+    group("random bytes", 10_000, random_bytes),
+    group("damaged sheets", 40_000, sheets),
+    group("many names", 60, many_names),
+    group("many rows", 200, many_rows),
+    group("a night of appends", 20, night),
+    group("a long index", 10, long_index),
+    group("the longest slices", 1, longest),
+    group("a run of appends, word for word", 1000, demand3),
+];
+
+/// Every call once, on whatever the image is.
+fn touch(check: &mut Check, sheet: &[u8], limit: u64) {
+    check.open();
+    check.name(0);
+    check.entry(0);
+    check.lookup(0, b"a");
+    check.chunk(0, b"a");
+    check.element(0, b"a", 0);
+    check.append(sheet, limit);
+}
+
+fn lengths(check: &mut Check, rng: &mut Rng) {
+    let sheet = sheet(&[Row::bytes(b"a", b"1234567890")]);
+    let mut whole = blank(400, 256, 0, 256, 0);
+    for length in 0..=300 {
+        for (index, names) in [(256, 256), (length as u64, 256), (256, length as u64)] {
+            put64(&mut whole, 8, index);
+            put64(&mut whole, 24, names);
+            check.load(&whole[..length]);
+            check.read_all(&[b"a".to_vec()]);
+            touch(check, &sheet, u64::MAX);
+        }
+        check.load(&vec![0; length]);
+        touch(check, &sheet, u64::MAX);
+        check.load(&rng.bytes(length));
+        touch(check, &sheet, u64::MAX);
+        for (slots, segments) in [(0, 0), (1, 1), (1, 0), (65_536, 65_536), (65_537, 1)] {
+            let text = &whole[..length.min(70)];
+            for (application, schema) in [(&b""[..], &b"s"[..]), (text, b""), (b"", text)] {
+                check.load(&vec![7; length]);
+                let schema_version = length as u32;
+                check.create(Create { application, schema, schema_version, slots, segments });
+            }
+        }
+        // Sheets of all lengths too.
+        check.load(&blank(1024, 256, 2, 320, 1));
+        check.append(&whole[..length], 5);
+        check.append(&vec![1; length], 5);
+        check.append(&[&[1, 0, 0, 0], &vec![1; length][..]].concat(), 5);
+    }
+}
+
+fn create(check: &mut Check, rng: &mut Rng) {
+    let text = |rng: &mut Rng| {
+        let length = rng.pick(&[0, 1, 8, 30, 62, 63, 64, 65, 200]);
+        let mut text: Vec<_> = (0..length).map(|_| rng.byte().max(1)).collect();
+        if length > 0 && rng.chance(15) {
+            let at = rng.below(length);
+            text[at] = 0;
+        }
+        text
+    };
+    let (application, schema) = (text(rng), text(rng));
+    let count = |rng: &mut Rng| match rng.below(6) {
+        0 => rng.border(),
+        1 => rng.pick(&[65_535, 65_536, 65_537]),
+        2 => 0,
+        _ => rng.below(40) as u64,
+    };
+    let (slots, segments) = (count(rng), count(rng));
+    let or = |count: u64, default: u64| if count == 0 { default } else { count };
+    let need = 256 + 32 * or(slots, 64).min(200) + 64 * or(segments, 16).min(200);
+    let length = match rng.below(4) {
+        0 => rng.below(need as usize + 1),
+        1 => need as usize,
+        _ => need as usize + rng.below(200),
+    };
+    check.load(&rng.bytes(length));
+    let schema_version = rng.number() as u32;
+    let request =
+        Create { application: &application, schema: &schema, schema_version, slots, segments };
+    if check.create(request).is_some() {
+        check.open();
+    }
+}
+
+fn fresh(check: &mut Check, rng: &mut Rng) {
+    check.load(&generate::fresh(rng));
+    check.read_all(&[]);
+    let rows = generate::rows(rng, &[]);
+    if check.append(&sheet(&rows), u64::MAX).is_some() {
+        check.read_all(&names_of(&rows));
+    }
+}
+
+/// An image that opens.
+fn start(rng: &mut Rng) -> (Vec<u8>, Vec<Vec<u8>>) {
+    if rng.chance(40) {
+        (generate::fresh(rng), Vec::new())
+    } else {
+        let Layout { mut image, names, .. } = generate::odd(rng);
+        if rng.chance(80) {
+            let room = rng.pick(&[200, 1000, 4000]);
+            image.extend(rng.bytes(room));
+        }
+        (image, names)
+    }
+}
+
+fn runs(check: &mut Check, rng: &mut Rng) {
+    let (image, mut known) = start(rng);
+    check.load(&image);
+    for _ in 0..rng.between(2, 8) {
+        let rows = generate::rows(rng, &known);
+        let limit = generate::limit(rng);
+        if let Some([_, whole]) = check.append(&sheet(&rows), limit) {
+            known.extend(names_of(&rows));
+            known.sort();
+            known.dedup();
+            if rng.chance(30) {
+                // Again, after the stop, and from its middle.
+                check.append(&sheet(&rows), rng.number() % (whole + 1));
+            }
+        }
+        known.truncate(12);
+        check.read_all(&known);
+    }
+}
+
+fn every_limit(check: &mut Check, rng: &mut Rng) {
+    let (image, mut known) = start(rng);
+    let mut rows = generate::rows(rng, &known);
+    rows.truncate(3);
+    let sheet = sheet(&rows);
+    known.extend(names_of(&rows));
+    check.load(&image);
+    let Some([_, whole]) = check.append(&sheet, 0) else {
+        return;
+    };
+    let mut next = generate::rows(rng, &known);
+    next.truncate(2);
+    let next = crate::images::sheet(&next);
+    for limit in 0..=whole + 1 {
+        check.load(&image);
+        check.append(&sheet, limit);
+        check.read_all(&known);
+        // The stopped append again, or another one, finds clean lists.
+        let again = if rng.chance(50) { &sheet } else { &next };
+        check.append(again, u64::MAX);
+        check.read_all(&known);
+    }
+}
+
+fn odd(check: &mut Check, rng: &mut Rng) {
+    let Layout { image, names, .. } = generate::odd(rng);
+    check.load(&image);
+    check.read_all(&names);
+    let rows = generate::rows(rng, &names);
+    check.append(&sheet(&rows), generate::limit(rng));
+    check.read_all(&names_of(&rows));
+}
+
+fn changed(check: &mut Check, rng: &mut Rng, layout: Layout) {
+    check.load(&layout.image);
+    if check.open().is_some() {
+        check.read_all(&layout.names);
+    }
+    let mut rows = generate::rows(rng, &layout.names);
+    rows.truncate(3);
+    touch(check, &sheet(&rows), generate::limit(rng));
+    check.open();
+}
+
+fn bent(check: &mut Check, rng: &mut Rng) {
+    let mut layout = generate::odd(rng);
+    layout.bend(rng);
+    changed(check, rng, layout);
+}
+
+fn damaged(check: &mut Check, rng: &mut Rng) {
+    let mut layout = generate::odd(rng);
+    layout.damage(rng);
+    changed(check, rng, layout);
+}
+
+fn random_bytes(check: &mut Check, rng: &mut Rng) {
+    let length = rng.pick(&[0, 100, 256, 257, 300, 384, 500, 1000]) + rng.below(64);
+    let mut image = rng.bytes(length);
+    // Random bytes fall at the magic; repair as many fields as get them further.
+    let repaired = rng.below(6);
+    if length >= 256 && repaired > 0 {
+        image[..8].copy_from_slice(&MAGIC);
+        put32(&mut image, 44, if repaired > 1 { 0x0002_0000 } else { rng.number() as u32 });
+        if repaired > 2 {
+            for (at, unit) in [(8, 32), (24, 64)] {
+                put64(&mut image, at, rng.below(length + 64) as u64);
+                put64(&mut image, at + 8, rng.below(length / unit) as u64);
+            }
+        }
+        if repaired > 3 {
+            let index = 256 + rng.below(length - 255);
+            let slots = rng.below((length - index) / 32 + 1);
+            let names = index + 32 * slots;
+            let segments = rng.below((length - names) / 64 + 1);
+            for (at, number) in [(8, index), (16, slots), (24, names), (32, segments)] {
+                put64(&mut image, at, number as u64);
+            }
+            if repaired > 4 {
+                image[index..names + 64 * segments].iter_mut().for_each(|byte| *byte &= 3);
+            }
+        }
+    }
+    check.load(&image);
+    check.read_all(&[b"\x01".to_vec()]);
+    touch(check, &rng.bytes(length % 90), u64::MAX);
+    touch(check, &sheet(&generate::rows(rng, &[])), generate::limit(rng));
+}
+
+fn sheets(check: &mut Check, rng: &mut Rng) {
+    let (image, known) = start(rng);
+    check.load(&image);
+    for _ in 0..3 {
+        let rows = generate::rows(rng, &known);
+        let sheet = match rng.below(4) {
+            0 => generate::bent_sheet(rng, &known),
+            1 => rng.bytes(rows.len() * 20),
+            _ => generate::damaged_sheet(rng, &rows),
+        };
+        check.append(&sheet, generate::limit(rng));
+        check.open();
+    }
+}
+
+/// Around 1,024 names, and around the end of a block full of them.
+fn many_names(check: &mut Check, rng: &mut Rng) {
+    let count = rng.between(1019, 1027);
+    let segments = (8 * count).div_ceil(64) + rng.below(2);
+    let length = 384 + 64 * segments;
+    let mut image = blank(length, 256, 4, 384, segments as u64);
+    let mut names: Vec<_> = (0..count).map(|n| format!("n{n:06}").into_bytes()).collect();
+    if rng.chance(30) {
+        let (a, b) = (rng.below(count), rng.below(count));
+        names[a] = names[b].clone();
+    }
+    let end = put_names(&mut image, 384, names.iter().map(Vec::as_slice));
+    if rng.chance(30) {
+        image[end..].fill(b'x');
+        if rng.chance(50) && end < length {
+            image[length - 1] = 0;
+        }
+    }
+    image.extend(vec![0xEE; 3 * length]);
+    check.load(&image);
+    check.open();
+    for n in [0, 1, 1000, 1023, 1024, count as u64] {
+        check.name(n);
+    }
+    let known = if rng.chance(50) { &names[..] } else { &[] };
+    let mut rows = generate::rows(rng, known);
+    rows.truncate(8);
+    if check.append(&sheet(&rows), u64::MAX).is_some() {
+        for row in &rows {
+            check.read(0, &row.name);
+        }
+    }
+    check.append(&sheet(&rows), generate::limit(rng));
+    check.open();
+}
+
+/// Sheets of up to 65 rows, that double both blocks more than once.
+fn many_rows(check: &mut Check, rng: &mut Rng) {
+    check.load(&Vec::from_iter(generate::fresh(rng).into_iter().chain(vec![0x77; 40_000])));
+    for _ in 0..2 {
+        let count = rng.pick(&[1, 31, 32, 33, 62, 63, 64, 65]);
+        let mut rows: Vec<_> = (0..count)
+            .map(|n| {
+                let name = format!("{}row {n}", "x".repeat(rng.below(40))).into_bytes();
+                generate::row(rng, name)
+            })
+            .collect();
+        for _ in 0..count {
+            let (a, b) = (rng.below(count), rng.below(count));
+            rows.swap(a, b);
+        }
+        // One of them large.
+        let length = rng.below(20_000);
+        rows[0] = Row::bytes(b"large", &rng.bytes(length));
+        let sheet = sheet(&rows);
+        if let Some([_, whole]) = check.append(&sheet, 0) {
+            check.append(&sheet, rng.number() % whole);
+            check.append(&sheet, u64::MAX);
+        }
+        check.open();
+        for n in 0..count as u64 {
+            check.entry(n);
+            check.name(n);
+        }
+        for row in rows.iter().take(10) {
+            check.read(0, &row.name);
+            check.read(1, &row.name);
+        }
+    }
+}
+
+/// Appends in turn to one image, whole and stopped, until it is full: blocks move again and again.
+fn night(check: &mut Check, rng: &mut Rng) {
+    let room = rng.between(20_000, 60_000);
+    check.load(&Vec::from_iter(generate::fresh(rng).into_iter().chain(rng.bytes(room))));
+    let known = generate::names(rng, 10);
+    let mut full = 0;
+    while full < 5 {
+        let rows = generate::rows(rng, &known);
+        let limit = if rng.chance(80) { u64::MAX } else { generate::limit(rng) };
+        if check.append(&sheet(&rows), limit).is_none() {
+            full += 1;
+        }
+        if let Some([frames, ..]) = check.open() {
+            let frame = rng.below(frames as usize + 1) as u64;
+            check.read(frame, &known[rng.below(known.len())]);
+            check.entry(rng.number() % 1000);
+        }
+    }
+}
+
+/// Thousands of entries, with something wrong near their end or not.
+fn long_index(check: &mut Check, rng: &mut Rng) {
+    let (frames, names) = (rng.between(1000, 2500), 16);
+    let slots = frames * names + rng.below(3);
+    let data = 256 + 32 * slots + 128;
+    let mut image = blank(data + 4096, 256, slots as u64, (data - 128) as u64, 2);
+    let listed: Vec<_> = (0..names).map(|n| format!("name {n:02}").into_bytes()).collect();
+    put_names(&mut image, data - 128, listed.iter().map(Vec::as_slice));
+    let mut entries = Vec::with_capacity(frames * names);
+    for frame in 0..frames as u64 {
+        for id in 0..names as u16 {
+            entries.push(Slot::bytes(frame, id, data as u64 + frame % 4000, 4));
+        }
+    }
+    put_slots(&mut image, 256, &entries);
+    check.load(&image);
+    check.open();
+    for _ in 0..40 {
+        check.read(rng.below(frames + 2) as u64, &listed[rng.below(names)]);
+        check.entry(rng.below(slots + 2) as u64);
+    }
+    check.append(&sheet(&[Row::bytes(b"name 03", b"12345"), Row::bytes(b"new", b"")]), u64::MAX);
+    for _ in 0..10 {
+        let at = 256 + 32 * rng.between(slots - 20, slots - 1);
+        image[at + rng.below(32)] ^= 1 << rng.below(8);
+        check.load(&image);
+        check.open();
+        check.lookup(3, b"name 03");
+    }
+}
+
+/// Slices of 1,073,741,824 bytes and one more. Only the pages that are written take memory, so
+/// they are not copied, and the bytes around what is stored are compared.
+fn longest(check: &mut Check, _: &mut Rng) {
+    const LONGEST: usize = 1 << 30;
+    /// More than create writes.
+    const HEAD: usize = 7 << 20;
+    let library = check.library();
+    let mut pair = [vec![0; LONGEST + 1], vec![0; LONGEST + 1]];
+    let [theirs, ours] = &mut pair;
+    let both = |check: &mut Check, what: &str, a: (u64, [u64; 2]), b: (u64, [u64; 2])| {
+        check.comparisons += 1;
+        if a != b {
+            check.fail(|| format!("{what} on a long slice: {a:?}, expected {b:?}"));
+        }
+    };
+    let (index, names) = (LONGEST - 4096, LONGEST - 2048);
+    let request = Create {
+        application: b"a",
+        schema: b"s",
+        schema_version: 0,
+        slots: 65_536,
+        segments: 65_536,
+    };
+    for length in [LONGEST, LONGEST + 1] {
+        let (theirs, ours) = (&mut theirs[..length], &mut ours[..length]);
+        let a = library.create(theirs, request);
+        let b = Reference.create(ours, request);
+        both(check, "create", (a, [0; 2]), (b, [0; 2]));
+        if theirs[..HEAD] != ours[..HEAD] {
+            check.fail(|| "create on a long slice: other bytes".into());
+        }
+        for image in [&mut *theirs, &mut *ours] {
+            // Both blocks near the end, a chunk up to it, an entry from far below.
+            crate::images::header(image, index as u64, 4, names as u64, 1);
+            put_names(image, names, [&b"a"[..], b"b"]);
+            let slots = [
+                Slot::bytes(0, 0, 256, (index - 256) as u64),
+                Slot::bytes(0, 1, (LONGEST - 1024) as u64, 512),
+            ];
+            put_slots(image, index, &slots);
+        }
+        let sheet = sheet(&[Row::bytes(b"c", &[9; 505])]);
+        for (sheet, limit) in [(&sheet[..], 3), (&sheet, u64::MAX), (&sheet, u64::MAX)] {
+            let (mut x, mut y) = ([5; 3], [5; 3]);
+            let (a, b) = (library.open(theirs, &mut x), Reference.open(ours, &mut y));
+            both(check, "open", (a, [x[0], x[2]]), (b, [y[0], y[2]]));
+            let (mut x, mut y) = ([5; 2], [5; 2]);
+            let a = library.chunk(theirs, 0, b"a", &mut x);
+            let b = Reference.chunk(ours, 0, b"a", &mut y);
+            both(check, "chunk", (a, x), (b, y));
+            let last = (index - 257) as u64;
+            let a = library.element(theirs, 0, b"a", last, &mut x);
+            let b = Reference.element(ours, 0, b"a", last, &mut y);
+            both(check, "element", (a, x), (b, y));
+            let a = library.append(theirs, sheet, limit, &mut x);
+            let b = Reference.append(ours, sheet, limit, &mut y);
+            both(check, "append", (a, x), (b, y));
+            if theirs[..HEAD] != ours[..HEAD] || theirs[index - 64..] != ours[index - 64..] {
+                check.fail(|| "append on a long slice: other bytes".into());
+            }
+        }
+    }
+}
+
+fn demand3(check: &mut Check, rng: &mut Rng) {
+    let (image, known) = start(rng);
+    let calls: Vec<_> = (0..rng.between(1, 6))
+        .map(|_| {
+            let mut rows = generate::rows(rng, &known);
+            rows.truncate(3);
+            match rng.below(8) {
+                0 => {
+                    let sheet = generate::damaged_sheet(rng, &rows);
+                    Call { rows: None, sheet, limit: generate::limit(rng) }
+                }
+                _ => Call::of(rows, generate::limit(rng)),
+            }
+        })
+        .collect();
+    match Run::make(check.library(), &image, &calls) {
+        Ok(moments) => check.moments += moments,
+        Err(what) => check.fail(|| what),
+    }
+}

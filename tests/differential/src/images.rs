@@ -1,0 +1,129 @@
+//! Images and sheets written field by field, lawful or not.
+
+pub const MAGIC: [u8; 8] = [0xDF, 0x65, 0xDF, 0x65, 0xDF, 0x65, 0xDF, 0x65];
+
+pub fn put16(bytes: &mut [u8], at: usize, number: u16) {
+    bytes[at..at + 2].copy_from_slice(&number.to_le_bytes());
+}
+
+pub fn put32(bytes: &mut [u8], at: usize, number: u32) {
+    bytes[at..at + 4].copy_from_slice(&number.to_le_bytes());
+}
+
+pub fn put64(bytes: &mut [u8], at: usize, number: u64) {
+    bytes[at..at + 8].copy_from_slice(&number.to_le_bytes());
+}
+
+pub fn get64(bytes: &[u8], at: usize) -> u64 {
+    u64::from_le_bytes(bytes[at..at + 8].try_into().unwrap())
+}
+
+/// `length` bytes, zero but for a header that says where the blocks are.
+pub fn blank(length: usize, index: u64, slots: u64, names: u64, segments: u64) -> Vec<u8> {
+    let mut image = vec![0; length];
+    header(&mut image, index, slots, names, segments);
+    image
+}
+
+pub fn header(image: &mut [u8], index: u64, slots: u64, names: u64, segments: u64) {
+    image[..256].fill(0);
+    image[..8].copy_from_slice(&MAGIC);
+    for (at, number) in [(8, index), (16, slots), (24, names), (32, segments)] {
+        put64(image, at, number);
+    }
+    put32(image, 44, 0x0002_0000);
+}
+
+/// Writes names, each with its zero, and answers where their list ends.
+pub fn put_names<'a>(
+    image: &mut [u8],
+    at: usize,
+    names: impl IntoIterator<Item = &'a [u8]>,
+) -> usize {
+    names.into_iter().fold(at, |at, name| {
+        image[at..][..name.len()].copy_from_slice(name);
+        image[at + name.len()] = 0;
+        at + name.len() + 1
+    })
+}
+
+/// An index entry as it lies in the image.
+#[derive(Clone, Copy, Debug)]
+pub struct Slot {
+    pub frame: u64,
+    pub n: u64,
+    pub location: u64,
+    pub m: u32,
+    pub id: u16,
+    pub kind: u8,
+    pub flags: u8,
+}
+
+impl Slot {
+    /// N bytes of type u8.
+    pub fn bytes(frame: u64, id: u16, location: u64, n: u64) -> Slot {
+        Slot { frame, n, location, m: 1, id, kind: 1, flags: 0 }
+    }
+
+    pub fn put(self, image: &mut [u8], at: usize) {
+        put64(image, at, self.frame);
+        put64(image, at + 8, self.n);
+        put64(image, at + 16, self.location);
+        put32(image, at + 24, self.m);
+        put16(image, at + 28, self.id);
+        image[at + 30] = self.kind;
+        image[at + 31] = self.flags;
+    }
+
+    /// The numbers that a lookup answers.
+    pub fn fields(self) -> [u64; 7] {
+        let Slot { frame, n, location, m, id, kind, flags } = self;
+        [frame, n, location, m.into(), id.into(), kind.into(), flags.into()]
+    }
+}
+
+pub fn put_slots(image: &mut [u8], at: usize, slots: &[Slot]) {
+    for (number, slot) in slots.iter().enumerate() {
+        slot.put(image, at + 32 * number);
+    }
+}
+
+/// A row of an append sheet.
+#[derive(Clone, Debug)]
+pub struct Row {
+    pub name: Vec<u8>,
+    pub kind: u8,
+    pub n: u64,
+    pub m: u32,
+    pub data: Vec<u8>,
+}
+
+impl Row {
+    pub fn new(name: &[u8], kind: u8, n: u64, m: u32, data: &[u8]) -> Row {
+        Row { name: name.to_vec(), kind, n, m, data: data.to_vec() }
+    }
+
+    /// One column of bytes.
+    pub fn bytes(name: &[u8], data: &[u8]) -> Row {
+        Row::new(name, 1, data.len() as u64, 1, data)
+    }
+}
+
+pub fn sheet(rows: &[Row]) -> Vec<u8> {
+    let mut sheet = (rows.len() as u32).to_le_bytes().to_vec();
+    for row in rows {
+        sheet.extend(row.n.to_le_bytes());
+        sheet.extend(row.m.to_le_bytes());
+        sheet.extend([row.kind, row.name.len() as u8, 0, 0]);
+    }
+    for row in rows {
+        sheet.extend(&row.name);
+        sheet.extend(&row.data);
+    }
+    sheet
+}
+
+/// Bytes of an element of a type; 0 for an unknown one.
+pub fn size(kind: u8) -> usize {
+    [0, 1, 2, 4, 8, 1, 2, 4, 8, 4, 8].get(usize::from(kind)).copied().unwrap_or(0)
+}

@@ -1,0 +1,23 @@
+//! The differential tests of libdialmoth.a.
+//!
+//! [`reference`] is document 01 in plain Rust; [`library`] puts it and the archive behind one
+//! trait. Against the paper itself: [`cases`], worked out by hand, [`files`] of the real GSD
+//! library, and [`demand3`], the words of "A run of appends". Against each other: [`check`] makes
+//! each call on both, and [`groups`] feed it what [`generate`] and [`images`] make.
+
+pub mod ask;
+pub mod cases;
+pub mod check;
+pub mod demand3;
+pub mod files;
+pub mod generate;
+pub mod groups;
+pub mod images;
+pub mod lent;
+pub mod library;
+pub mod model;
+pub mod random;
+pub mod reference;
+pub mod suite;
+#[cfg(linked)]
+pub mod wrapper;

@@ -1,0 +1,179 @@
+//! The eight calls as the C interface has them, so that any two makers can be held side by side.
+
+use crate::reference::{self, Answer, Element, Entry};
+
+/// The result is the number of the refusal, 0 for an answer. A refusal leaves `out` as it was, but
+/// for the append's, which is set to 0 and 0.
+pub trait Library: Sync {
+    /// `out`: frames, names, entries.
+    fn open(&self, image: &[u8], out: &mut [u64; 3]) -> u64;
+    /// `out`: start, length.
+    fn name(&self, image: &[u8], n: u64, out: &mut [u64; 2]) -> u64;
+    /// `out`: frame, N, location, M, id, type, flags.
+    fn entry(&self, image: &[u8], n: u64, out: &mut [u64; 7]) -> u64;
+    /// `out`: as `entry`.
+    fn lookup(&self, image: &[u8], frame: u64, name: &[u8], out: &mut [u64; 7]) -> u64;
+    /// `out`: start, length.
+    fn chunk(&self, image: &[u8], frame: u64, name: &[u8], out: &mut [u64; 2]) -> u64;
+    /// `out`: kind (1 unsigned, 2 signed, 3 single, 4 double), bits.
+    fn element(&self, image: &[u8], frame: u64, name: &[u8], k: u64, out: &mut [u64; 2]) -> u64;
+    fn create(&self, image: &mut [u8], request: Create) -> u64;
+    /// `out`: done, whole.
+    fn append(&self, image: &mut [u8], sheet: &[u8], limit: u64, out: &mut [u64; 2]) -> u64;
+}
+
+/// What create is asked for.
+#[derive(Clone, Copy, Debug)]
+pub struct Create<'a> {
+    pub application: &'a [u8],
+    pub schema: &'a [u8],
+    pub schema_version: u32,
+    pub slots: u64,
+    pub segments: u64,
+}
+
+/// The plain Rust implementation.
+pub struct Reference;
+
+fn give<const K: usize>(answer: Answer<[u64; K]>, out: &mut [u64; K]) -> u64 {
+    match answer {
+        Ok(numbers) => {
+            *out = numbers;
+            0
+        }
+        Err(number) => number,
+    }
+}
+
+fn fields(e: Entry) -> [u64; 7] {
+    [e.frame, e.n, e.location, e.m.into(), e.id.into(), e.kind.into(), e.flags.into()]
+}
+
+/// Start and length of a part of the image.
+fn place(image: &[u8], part: &[u8]) -> [u64; 2] {
+    [(part.as_ptr().addr() - image.as_ptr().addr()) as u64, part.len() as u64]
+}
+
+impl Library for Reference {
+    fn open(&self, image: &[u8], out: &mut [u64; 3]) -> u64 {
+        give(reference::open(image).map(|c| [c.frames, c.names, c.entries]), out)
+    }
+
+    fn name(&self, image: &[u8], n: u64, out: &mut [u64; 2]) -> u64 {
+        give(reference::name(image, n).map(|part| place(image, part)), out)
+    }
+
+    fn entry(&self, image: &[u8], n: u64, out: &mut [u64; 7]) -> u64 {
+        give(reference::entry(image, n).map(fields), out)
+    }
+
+    fn lookup(&self, image: &[u8], frame: u64, name: &[u8], out: &mut [u64; 7]) -> u64 {
+        give(reference::lookup(image, frame, name).map(fields), out)
+    }
+
+    fn chunk(&self, image: &[u8], frame: u64, name: &[u8], out: &mut [u64; 2]) -> u64 {
+        give(reference::chunk(image, frame, name).map(|part| place(image, part)), out)
+    }
+
+    fn element(&self, image: &[u8], frame: u64, name: &[u8], k: u64, out: &mut [u64; 2]) -> u64 {
+        let numbers = reference::element(image, frame, name, k).map(|element| match element {
+            Element::Unsigned(number) => [1, number],
+            Element::Signed(number) => [2, number as u64],
+            Element::Single(bits) => [3, bits.into()],
+            Element::Double(bits) => [4, bits],
+        });
+        give(numbers, out)
+    }
+
+    fn create(&self, image: &mut [u8], request: Create) -> u64 {
+        let Create { application, schema, schema_version, slots, segments } = request;
+        reference::create(image, application, schema, schema_version, slots, segments)
+            .err()
+            .unwrap_or(0)
+    }
+
+    fn append(&self, image: &mut [u8], sheet: &[u8], limit: u64, out: &mut [u64; 2]) -> u64 {
+        *out = [0, 0];
+        give(reference::append(image, sheet, limit).map(|s| [s.done, s.whole]), out)
+    }
+}
+
+/// libdialmoth.a.
+#[cfg(linked)]
+pub struct Linked;
+
+#[cfg(linked)]
+mod linked {
+    use super::{Create, Library, Linked};
+    use dialmoth::ffi;
+
+    // Pointers and lengths are those of live slices, and every `out` has its call's length.
+    impl Library for Linked {
+        fn open(&self, image: &[u8], out: &mut [u64; 3]) -> u64 {
+            unsafe { ffi::dialmoth_open(image.as_ptr(), image.len(), out.as_mut_ptr()) }
+        }
+
+        fn name(&self, image: &[u8], n: u64, out: &mut [u64; 2]) -> u64 {
+            unsafe { ffi::dialmoth_name(image.as_ptr(), image.len(), n, out.as_mut_ptr()) }
+        }
+
+        fn entry(&self, image: &[u8], n: u64, out: &mut [u64; 7]) -> u64 {
+            unsafe { ffi::dialmoth_entry(image.as_ptr(), image.len(), n, out.as_mut_ptr()) }
+        }
+
+        fn lookup(&self, image: &[u8], frame: u64, name: &[u8], out: &mut [u64; 7]) -> u64 {
+            let (image, length) = (image.as_ptr(), image.len());
+            unsafe {
+                let out = out.as_mut_ptr();
+                ffi::dialmoth_lookup(image, length, frame, name.as_ptr(), name.len(), out)
+            }
+        }
+
+        fn chunk(&self, image: &[u8], frame: u64, name: &[u8], out: &mut [u64; 2]) -> u64 {
+            let (image, length) = (image.as_ptr(), image.len());
+            unsafe {
+                let out = out.as_mut_ptr();
+                ffi::dialmoth_chunk(image, length, frame, name.as_ptr(), name.len(), out)
+            }
+        }
+
+        fn element(
+            &self,
+            image: &[u8],
+            frame: u64,
+            name: &[u8],
+            k: u64,
+            out: &mut [u64; 2],
+        ) -> u64 {
+            let (image, length) = (image.as_ptr(), image.len());
+            unsafe {
+                let out = out.as_mut_ptr();
+                ffi::dialmoth_element(image, length, frame, name.as_ptr(), name.len(), k, out)
+            }
+        }
+
+        fn create(&self, image: &mut [u8], request: Create) -> u64 {
+            unsafe {
+                ffi::dialmoth_create(
+                    image.as_mut_ptr(),
+                    image.len(),
+                    request.application.as_ptr(),
+                    request.application.len(),
+                    request.schema.as_ptr(),
+                    request.schema.len(),
+                    request.schema_version,
+                    request.slots,
+                    request.segments,
+                )
+            }
+        }
+
+        fn append(&self, image: &mut [u8], sheet: &[u8], limit: u64, out: &mut [u64; 2]) -> u64 {
+            let (image, length) = (image.as_mut_ptr(), image.len());
+            unsafe {
+                let out = out.as_mut_ptr();
+                ffi::dialmoth_append(image, length, sheet.as_ptr(), sheet.len(), limit, out)
+            }
+        }
+    }
+}

@@ -1,0 +1,774 @@
+//! Document 01 once more, sentence by sentence and slowly: whole numbers are `u128`, an append is
+//! the list of its stores, and they are made one by one.
+//!
+//! It stands in for the library where there is no archive, and it can be told to make a hurried
+//! builder's [`Fault`], so that the tests can be tested: each must be noticed.
+
+use crate::library::{Create, Library};
+
+macro_rules! faults {
+    ($($fault:ident,)*) => {
+        #[derive(Clone, Copy, Debug, PartialEq, Eq)]
+        pub enum Fault {
+            $($fault,)*
+        }
+
+        impl Fault {
+            pub const ALL: &[Fault] = &[$(Fault::$fault,)*];
+        }
+    };
+}
+
+faults! {
+    FiveOfApplicationOnly,
+    BlockSizeWraps,
+    EmptyBlockSharesBytes,
+    TenBeforeNine,
+    ElevenBeforeTen,
+    NamesOver63Refused,
+    TestsBeforeListEnd,
+    LocationUnsigned,
+    TypeZeroKnown,
+    LowestNumberOfAllEntries,
+    FrameMaySkip,
+    IdsMayBeEqual,
+    ChunkSizeWraps,
+    ChunkEndWraps,
+    EmptyChunkSharesBytes,
+    SeventeenOfIndexOnly,
+    OverlappingChunksRefused,
+    LookupPastLastFrame,
+    ElementPlaceWraps,
+    SignedNotExtended,
+    RefusalClearsOut,
+    RefusedAppendKeepsOut,
+    CreateTestsOne,
+    CreateNeedsBothZero,
+    CreateClearsAll,
+    CreateKeepsReserved,
+    EmptyBlocksMayBeOdd,
+    RowsUpTo65,
+    RowSizeWraps,
+    TwentySevenBeforeTwentySix,
+    LengthBeforeTypes,
+    NamesUpTo1025,
+    EndOfUseSkipsEmptyChunks,
+    EndOfUseNotRounded,
+    FinalPositionNotPadded,
+    FitNeedsSpareZero,
+    ZeroDoublesToOne,
+    NotDoubledOften,
+    IndexNotCleared,
+    NamesNotCleared,
+    NothingClearedBeforeMove,
+    WordOfListEndCleared,
+    PaddingKept,
+    NewBlockNotCleared,
+    CountBeforeLocation,
+    NameFromItsFront,
+    NamesShareStore,
+    IdsByName,
+    EntriesInRowOrder,
+    EntriesFirstToLast,
+    LocationNotLast,
+    FlagsNotCopied,
+    LimitBeforeTests,
+    AllStoresAtOnce,
+    DoneCountsChanges,
+    EmptyChunkAtEndOfUse,
+}
+
+pub struct Model {
+    pub fault: Option<Fault>,
+}
+
+type Verdict<T> = Result<T, u64>;
+
+/// Little-endian, of any width.
+fn number(bytes: &[u8], at: usize, width: usize) -> u128 {
+    (0..width).rev().fold(0, |sum, n| sum * 256 + u128::from(bytes[at + n]))
+}
+
+fn width(kind: u8) -> u128 {
+    match kind {
+        1 | 5 => 1,
+        2 | 6 => 2,
+        3 | 7 | 9 => 4,
+        4 | 8 | 10 => 8,
+        _ => 0,
+    }
+}
+
+fn round_up(place: u128) -> u128 {
+    place.div_ceil(8) * 8
+}
+
+#[derive(Clone, Copy)]
+struct Listed {
+    frame: u128,
+    n: u128,
+    location: u128,
+    m: u128,
+    id: u128,
+    kind: u8,
+    flags: u8,
+}
+
+impl Listed {
+    fn at(image: &[u8], at: usize) -> Listed {
+        Listed {
+            frame: number(image, at, 8),
+            n: number(image, at + 8, 8),
+            location: number(image, at + 16, 8),
+            m: number(image, at + 24, 4),
+            id: number(image, at + 28, 2),
+            kind: image[at + 30],
+            flags: image[at + 31],
+        }
+    }
+
+    fn fields(self) -> [u64; 7] {
+        let Listed { frame, n, location, m, id, kind, flags } = self;
+        [frame, n, location, m, id, kind.into(), flags.into()].map(|number| number as u64)
+    }
+
+    fn length(self) -> u128 {
+        self.n * self.m * width(self.kind)
+    }
+}
+
+struct View {
+    index: u128,
+    slots: u128,
+    names_at: u128,
+    segments: u128,
+    /// Start and length of each name.
+    names: Vec<(usize, usize)>,
+    list_end: usize,
+    entries: Vec<Listed>,
+}
+
+impl View {
+    fn frames(&self) -> u128 {
+        self.entries.last().map_or(0, |entry| entry.frame + 1)
+    }
+}
+
+/// What an entry is tested against.
+struct Limits {
+    length: u128,
+    names: u128,
+    index: (u128, u128),
+    name_block: (u128, u128),
+}
+
+struct Row<'s> {
+    n: u128,
+    m: u128,
+    kind: u8,
+    name: &'s [u8],
+    data: &'s [u8],
+}
+
+/// A place and the eight bytes stored there.
+type Store = (u128, [u8; 8]);
+
+impl Model {
+    fn has(&self, fault: Fault) -> bool {
+        self.fault == Some(fault)
+    }
+
+    fn wrap(&self, fault: Fault, number: u128) -> u128 {
+        if self.has(fault) {
+            number % (1 << 64)
+        } else {
+            number
+        }
+    }
+
+    fn shares(&self, a: (u128, u128), b: (u128, u128), empty_counts: bool) -> bool {
+        let has_bytes = a.0 < a.1 && b.0 < b.1 || empty_counts;
+        has_bytes && a.0 < b.1 && b.0 < a.1
+    }
+
+    fn view(&self, image: &[u8]) -> Verdict<View> {
+        let length = image.len() as u128;
+        if length < 256 {
+            return Err(1);
+        }
+        if length > 1_073_741_824 {
+            return Err(2);
+        }
+        if number(image, 0, 8) != 0x65DF_65DF_65DF_65DF {
+            return Err(3);
+        }
+        if number(image, 44, 4) != 0x0002_0000 {
+            return Err(4);
+        }
+        for text in [48, 112] {
+            if text == 112 && self.has(Fault::FiveOfApplicationOnly) {
+                continue;
+            }
+            if (0..64).all(|n| image[text + n] != 0) {
+                return Err(5);
+            }
+        }
+        let [index, slots, names_at, segments] = [8, 16, 24, 32].map(|at| number(image, at, 8));
+        let index_end = index + self.wrap(Fault::BlockSizeWraps, 32 * slots);
+        let names_end = names_at + self.wrap(Fault::BlockSizeWraps, 64 * segments);
+        if index < 256 || index_end > length {
+            return Err(6);
+        }
+        if names_at < 256 || names_end > length {
+            return Err(7);
+        }
+        let slots = (index_end - index) / 32;
+        let segments = (names_end - names_at) / 64;
+        let (index_block, name_block) = ((index, index_end), (names_at, names_end));
+        if self.shares(index_block, name_block, self.has(Fault::EmptyBlockSharesBytes)) {
+            return Err(8);
+        }
+
+        let (start, end) = (names_at as usize, names_end as usize);
+        let mut names = Vec::new();
+        let mut at = start;
+        while at < end && image[at] != 0 {
+            if self.has(Fault::TenBeforeNine) && names.len() == 1024 {
+                return Err(10);
+            }
+            let mut close = at;
+            while close < end && image[close] != 0 {
+                close += 1;
+            }
+            if close == end || self.has(Fault::NamesOver63Refused) && close - at > 63 {
+                return Err(9);
+            }
+            names.push((at, close - at));
+            at = close + 1;
+        }
+        let list_end = at - start;
+        let text = |(at, length): (usize, usize)| &image[at..at + length];
+        // Sorted, equal names are neighbours.
+        let mut sorted: Vec<_> = names.iter().copied().map(text).collect();
+        sorted.sort_unstable();
+        let equal = sorted.windows(2).any(|pair| pair[0] == pair[1]);
+        if equal && self.has(Fault::ElevenBeforeTen) {
+            return Err(11);
+        }
+        if names.len() > 1024 {
+            return Err(10);
+        }
+        if equal {
+            return Err(11);
+        }
+
+        let limits = Limits { length, names: names.len() as u128, index: index_block, name_block };
+        let mut entries: Vec<Listed> = Vec::new();
+        let mut worst = None;
+        for slot in 0..slots {
+            let entry = Listed::at(image, (index + 32 * slot) as usize);
+            if self.has(Fault::TestsBeforeListEnd) && entry.location == 0 && entry.kind > 10 {
+                return Err(13);
+            }
+            if entry.location == 0 {
+                break;
+            }
+            match self.entry_verdict(&entry, &entries, &limits) {
+                0 => {}
+                verdict if self.has(Fault::LowestNumberOfAllEntries) => {
+                    worst = Some(worst.map_or(verdict, |other: u64| other.min(verdict)));
+                }
+                verdict => return Err(verdict),
+            }
+            entries.push(entry);
+        }
+        match worst {
+            Some(verdict) => Err(verdict),
+            None => Ok(View { index, slots, names_at, segments, names, list_end, entries }),
+        }
+    }
+
+    fn entry_verdict(&self, entry: &Listed, before: &[Listed], limits: &Limits) -> u64 {
+        let negative = entry.location >= 1 << 63 && !self.has(Fault::LocationUnsigned);
+        if entry.location < 256 || negative {
+            return 12;
+        }
+        if width(entry.kind) == 0 && !(self.has(Fault::TypeZeroKnown) && entry.kind == 0) {
+            return 13;
+        }
+        if entry.id >= limits.names {
+            return 14;
+        }
+        let in_order = match before.last() {
+            None => entry.frame == 0,
+            Some(last) => {
+                let same_id = self.has(Fault::IdsMayBeEqual) && entry.id == last.id;
+                let skips = self.has(Fault::FrameMaySkip) && entry.frame > last.frame;
+                entry.frame == last.frame && (entry.id > last.id || same_id)
+                    || entry.frame == last.frame + 1
+                    || skips
+            }
+        };
+        if !in_order {
+            return 15;
+        }
+        let bytes = self.wrap(Fault::ChunkSizeWraps, entry.length());
+        let end = self.wrap(Fault::ChunkEndWraps, entry.location + bytes);
+        if end > limits.length {
+            return 16;
+        }
+        let chunk = (entry.location, end);
+        let empty_counts = self.has(Fault::EmptyChunkSharesBytes);
+        let with_names = self.shares(chunk, limits.name_block, empty_counts)
+            && !self.has(Fault::SeventeenOfIndexOnly);
+        if self.shares(chunk, limits.index, empty_counts) || with_names {
+            return 17;
+        }
+        let meets = |other: &Listed| {
+            self.shares(chunk, (other.location, other.location + other.length()), false)
+        };
+        if self.has(Fault::OverlappingChunksRefused) && before.iter().any(meets) {
+            return 17;
+        }
+        0
+    }
+
+    fn found(&self, image: &[u8], frame: u64, name: &[u8]) -> Verdict<Listed> {
+        let view = self.view(image)?;
+        let past = u128::from(self.has(Fault::LookupPastLastFrame));
+        if u128::from(frame) >= view.frames() + past {
+            return Err(40);
+        }
+        let listed = |&(at, length): &(usize, usize)| &image[at..at + length] == name;
+        let Some(id) = view.names.iter().position(listed) else {
+            return Err(41);
+        };
+        let here = |entry: &&Listed| entry.frame == u128::from(frame) && entry.id == id as u128;
+        view.entries.iter().find(here).copied().ok_or(42)
+    }
+
+    fn rows<'s>(&self, sheet: &'s [u8]) -> Verdict<Vec<Row<'s>>> {
+        if sheet.len() < 4 {
+            return Err(22);
+        }
+        let count = number(sheet, 0, 4);
+        if count == 0 || count > 64 + u128::from(self.has(Fault::RowsUpTo65)) {
+            return Err(22);
+        }
+        let count = count as usize;
+        if sheet.len() < 4 + 16 * count {
+            return Err(23);
+        }
+        let mut total = 4 + 16 * count as u128;
+        for row in 0..count {
+            let at = 4 + 16 * row;
+            let size = number(sheet, at, 8) * number(sheet, at + 8, 4) * width(sheet[at + 12]);
+            total += u128::from(sheet[at + 13]) + self.wrap(Fault::RowSizeWraps, size);
+        }
+        let long = total != sheet.len() as u128;
+        if long && self.has(Fault::LengthBeforeTypes) {
+            return Err(25);
+        }
+        for row in 0..count {
+            let at = 4 + 16 * row;
+            let known = width(sheet[at + 12]) != 0;
+            if !known || sheet[at + 13] == 0 || sheet[at + 14] != 0 || sheet[at + 15] != 0 {
+                return Err(24);
+            }
+        }
+        if long {
+            return Err(25);
+        }
+        let mut rows = Vec::new();
+        let mut body = 4 + 16 * count;
+        for row in 0..count {
+            let at = 4 + 16 * row;
+            let (n, m) = (number(sheet, at, 8), number(sheet, at + 8, 4));
+            let (kind, name_length) = (sheet[at + 12], usize::from(sheet[at + 13]));
+            let size = self.wrap(Fault::RowSizeWraps, n * m * width(kind)) as usize;
+            let name = &sheet[body..body + name_length];
+            let data = &sheet[body + name_length..body + name_length + size];
+            body += name_length + size;
+            rows.push(Row { n, m, kind, name, data });
+        }
+        let holds_zero = rows.iter().any(|row| row.name.contains(&0));
+        let mut twice = false;
+        for a in 0..count {
+            for b in 0..a {
+                twice |= rows[a].name == rows[b].name;
+            }
+        }
+        if twice && self.has(Fault::TwentySevenBeforeTwentySix) {
+            return Err(27);
+        }
+        if holds_zero {
+            return Err(26);
+        }
+        if twice {
+            return Err(27);
+        }
+        Ok(rows)
+    }
+
+    /// The list of stores of an append.
+    fn stores(&self, image: &[u8], sheet: &[u8]) -> Verdict<Vec<Store>> {
+        let view = self.view(image)?;
+        let odd = |place: u128, count: u128| {
+            let excused = self.has(Fault::EmptyBlocksMayBeOdd) && count == 0;
+            !place.is_multiple_of(8) && !excused
+        };
+        if odd(view.index, view.slots) || odd(view.names_at, view.segments) {
+            return Err(21);
+        }
+        let rows = self.rows(sheet)?;
+
+        let text = |&(at, length): &(usize, usize)| &image[at..at + length];
+        let old_names: Vec<&[u8]> = view.names.iter().map(text).collect();
+        let mut new_names: Vec<&[u8]> = Vec::new();
+        for row in &rows {
+            if !old_names.contains(&row.name) {
+                new_names.push(row.name);
+            }
+        }
+        if self.has(Fault::IdsByName) {
+            new_names.sort_unstable();
+        }
+        let most = 1024 + usize::from(self.has(Fault::NamesUpTo1025));
+        if old_names.len() + new_names.len() > most {
+            return Err(28);
+        }
+        let all_names = [&old_names[..], &new_names].concat();
+        let id_of = |name: &[u8]| all_names.iter().position(|&listed| listed == name).unwrap();
+
+        let (index_end, names_end) =
+            (view.index + 32 * view.slots, view.names_at + 64 * view.segments);
+        let mut end_of_use = 256.max(index_end).max(names_end);
+        for entry in &view.entries {
+            if entry.length() > 0 || !self.has(Fault::EndOfUseSkipsEmptyChunks) {
+                end_of_use = end_of_use.max(entry.location + entry.length());
+            }
+        }
+        if !self.has(Fault::EndOfUseNotRounded) || end_of_use + 8 > image.len() as u128 {
+            end_of_use = round_up(end_of_use);
+        }
+        let mut stores: Vec<Store> = Vec::new();
+        let word_at = |bytes: &[u8], at: usize| {
+            let mut word = [0; 8];
+            for (n, byte) in word.iter_mut().enumerate() {
+                *byte = bytes.get(at + n).copied().unwrap_or(0);
+            }
+            word
+        };
+
+        // 2, reckoned first: the places, for the final position.
+        let mut position = end_of_use;
+        let mut unpadded = position;
+        let mut locations = Vec::new();
+        for row in &rows {
+            let empty_first = row.data.is_empty() && self.has(Fault::EmptyChunkAtEndOfUse);
+            locations.push(if empty_first { end_of_use } else { position });
+            unpadded = position + row.data.len() as u128;
+            position = round_up(unpadded);
+        }
+        let old_list = &image[view.names_at as usize..][..view.list_end];
+        let new_bytes: usize = new_names.iter().map(|name| name.len() + 1).sum();
+        let spare = usize::from(self.has(Fault::FitNeedsSpareZero) && new_bytes > 0);
+        let needed = (view.list_end + new_bytes + spare) as u128;
+        let doubled = |old: u128, unit: u128, needed: u128| {
+            let mut count =
+                if self.has(Fault::ZeroDoublesToOne) && old == 0 { 1 } else { old.max(1) * 2 };
+            while unit * count < needed && !self.has(Fault::NotDoubledOften) {
+                count *= 2;
+            }
+            if unit * count < needed {
+                count = needed.div_ceil(unit);
+            }
+            count
+        };
+        let new_name_block = (needed > 64 * view.segments).then(|| {
+            let block = (position, doubled(view.segments, 64, needed));
+            position = block.0 + 64 * block.1;
+            block
+        });
+        let listed = view.entries.len();
+        let needed = 32 * (listed + rows.len()) as u128;
+        let new_index = (needed > 32 * view.slots).then(|| {
+            let block = (position, doubled(view.slots, 32, needed));
+            position = block.0 + 32 * block.1;
+            block
+        });
+        let moves = new_name_block.is_some() || new_index.is_some();
+        let last =
+            if self.has(Fault::FinalPositionNotPadded) && !moves { unpadded } else { position };
+        if last > image.len() as u128 {
+            return Err(29);
+        }
+
+        // 1
+        let skip = |moved: bool| moved && self.has(Fault::NothingClearedBeforeMove);
+        if !self.has(Fault::IndexNotCleared) && !skip(new_index.is_some()) {
+            for at in (view.index + 32 * listed as u128..index_end).step_by(8) {
+                stores.push((at, [0; 8]));
+            }
+        }
+        if !self.has(Fault::NamesNotCleared) && !skip(new_name_block.is_some()) {
+            let kept = if self.has(Fault::WordOfListEndCleared) { &[] } else { old_list };
+            for at in (view.list_end / 8 * 8..64 * view.segments as usize).step_by(8) {
+                stores.push((view.names_at + at as u128, word_at(kept, at)));
+            }
+        }
+
+        // 2
+        for (row, location) in rows.iter().zip(&locations) {
+            for at in (0..row.data.len()).step_by(8) {
+                let mut word = word_at(row.data, at);
+                if self.has(Fault::PaddingKept) {
+                    for n in row.data.len().saturating_sub(at)..8 {
+                        word[n] = image[*location as usize + at + n];
+                    }
+                }
+                stores.push((location + at as u128, word));
+            }
+        }
+
+        // 3
+        let header = |stores: &mut Vec<Store>, at: u128, block: (u128, u128)| {
+            let words = [(at, block.0), (at + 8, block.1)];
+            let words =
+                if self.has(Fault::CountBeforeLocation) { [words[1], words[0]] } else { words };
+            stores.extend(words.map(|(at, number)| (at, (number as u64).to_le_bytes())));
+        };
+        let fill = |stores: &mut Vec<Store>, block: u128, length: usize, old: &[u8]| {
+            for at in (0..length).step_by(8) {
+                if at < old.len() || !self.has(Fault::NewBlockNotCleared) {
+                    stores.push((block + at as u128, word_at(old, at)));
+                }
+            }
+        };
+        let mut names_at = view.names_at;
+        if let Some(block) = new_name_block {
+            fill(&mut stores, block.0, 64 * block.1 as usize, old_list);
+            header(&mut stores, 24, block);
+            names_at = block.0;
+        }
+
+        // 4
+        let mut list = old_list.to_vec();
+        let mut highest_stored = usize::MAX;
+        for name in &new_names {
+            let start = list.len();
+            list.extend(*name);
+            let mut words: Vec<usize> = (start / 8..=(list.len() - 1) / 8).rev().collect();
+            if self.has(Fault::NameFromItsFront) {
+                words.reverse();
+            }
+            for word in words {
+                if self.has(Fault::NamesShareStore) && word == highest_stored {
+                    // Adds to the store that the name before it made.
+                    stores.last_mut().unwrap().1 = word_at(&list, 8 * word);
+                } else {
+                    stores.push((names_at + 8 * word as u128, word_at(&list, 8 * word)));
+                }
+            }
+            highest_stored =
+                if name.len() < 8 && start % 8 + name.len() < 8 { start / 8 } else { usize::MAX };
+            list.push(0);
+        }
+
+        // 5
+        let mut index = view.index;
+        if let Some(block) = new_index {
+            let mut old = image[view.index as usize..][..32 * listed].to_vec();
+            if self.has(Fault::FlagsNotCopied) {
+                old.chunks_mut(32).for_each(|entry| entry[31] = 0);
+            }
+            fill(&mut stores, block.0, 32 * block.1 as usize, &old);
+            header(&mut stores, 8, block);
+            index = block.0;
+        }
+
+        // 6
+        let mut order: Vec<usize> = (0..rows.len()).collect();
+        if !self.has(Fault::EntriesInRowOrder) {
+            order.sort_by_key(|&row| id_of(rows[row].name));
+        }
+        let mut slots: Vec<usize> = (0..rows.len()).rev().collect();
+        if self.has(Fault::EntriesFirstToLast) {
+            slots.reverse();
+        }
+        for slot in slots {
+            let row = &rows[order[slot]];
+            let mut entry = [0; 32];
+            entry[..8].copy_from_slice(&(view.frames() as u64).to_le_bytes());
+            entry[8..16].copy_from_slice(&(row.n as u64).to_le_bytes());
+            entry[16..24].copy_from_slice(&(locations[order[slot]] as u64).to_le_bytes());
+            entry[24..28].copy_from_slice(&(row.m as u32).to_le_bytes());
+            entry[28..30].copy_from_slice(&(id_of(row.name) as u16).to_le_bytes());
+            entry[30] = row.kind;
+            let words =
+                if self.has(Fault::LocationNotLast) { [0, 8, 16, 24] } else { [0, 8, 24, 16] };
+            for word in words {
+                let at = index + 32 * (listed + slot) as u128 + word as u128;
+                stores.push((at, word_at(&entry, word)));
+            }
+        }
+        Ok(stores)
+    }
+
+    fn give<const K: usize>(&self, answer: Verdict<[u64; K]>, out: &mut [u64; K]) -> u64 {
+        match answer {
+            Ok(numbers) => {
+                *out = numbers;
+                0
+            }
+            Err(number) => {
+                if self.has(Fault::RefusalClearsOut) {
+                    *out = [0; K];
+                }
+                number
+            }
+        }
+    }
+}
+
+impl Library for Model {
+    fn open(&self, image: &[u8], out: &mut [u64; 3]) -> u64 {
+        let counts = self
+            .view(image)
+            .map(|view| [view.frames() as u64, view.names.len() as u64, view.entries.len() as u64]);
+        self.give(counts, out)
+    }
+
+    fn name(&self, image: &[u8], n: u64, out: &mut [u64; 2]) -> u64 {
+        let name = self.view(image).and_then(|view| {
+            if n >= view.names.len() as u64 {
+                return Err(44);
+            }
+            let (at, length) = view.names[n as usize];
+            Ok([at as u64, length as u64])
+        });
+        self.give(name, out)
+    }
+
+    fn entry(&self, image: &[u8], n: u64, out: &mut [u64; 7]) -> u64 {
+        let entry = self.view(image).and_then(|view| {
+            if n >= view.entries.len() as u64 {
+                return Err(44);
+            }
+            Ok(view.entries[n as usize].fields())
+        });
+        self.give(entry, out)
+    }
+
+    fn lookup(&self, image: &[u8], frame: u64, name: &[u8], out: &mut [u64; 7]) -> u64 {
+        self.give(self.found(image, frame, name).map(Listed::fields), out)
+    }
+
+    fn chunk(&self, image: &[u8], frame: u64, name: &[u8], out: &mut [u64; 2]) -> u64 {
+        let part = self.found(image, frame, name);
+        self.give(part.map(|entry| [entry.location as u64, entry.length() as u64]), out)
+    }
+
+    fn element(&self, image: &[u8], frame: u64, name: &[u8], k: u64, out: &mut [u64; 2]) -> u64 {
+        let element = self.found(image, frame, name).and_then(|entry| {
+            let size = width(entry.kind);
+            let k = u128::from(k);
+            let wraps = self.has(Fault::ElementPlaceWraps);
+            let inside =
+                if wraps { (k * size) % (1 << 64) < entry.length() } else { k < entry.n * entry.m };
+            if !inside {
+                return Err(43);
+            }
+            let at = entry.location as usize + ((k * size) % (1 << 64)) as usize;
+            let unsigned = number(image, at, size as usize) as u64;
+            let unused = 64 - 8 * size as u32;
+            let signed = ((unsigned << unused) as i64 >> unused) as u64;
+            let signed = if self.has(Fault::SignedNotExtended) { unsigned } else { signed };
+            Ok(match entry.kind {
+                1..=4 => [1, unsigned],
+                5..=8 => [2, signed],
+                9 => [3, unsigned],
+                _ => [4, unsigned],
+            })
+        });
+        self.give(element, out)
+    }
+
+    fn create(&self, image: &mut [u8], request: Create) -> u64 {
+        let Create { application, schema, schema_version, slots, segments } = request;
+        if self.has(Fault::CreateTestsOne) && image.len() < 256 {
+            return 1;
+        }
+        if image.len() > 1_073_741_824 {
+            return 2;
+        }
+        if slots > 65_536 || segments > 65_536 {
+            return 50;
+        }
+        if application.len() > 63
+            || schema.len() > 63
+            || [application, schema].concat().contains(&0)
+        {
+            return 51;
+        }
+        let both = slots == 0 && segments == 0;
+        let zero = |count| count == 0 && (both || !self.has(Fault::CreateNeedsBothZero));
+        let slots = if zero(slots) { 64 } else { slots };
+        let segments = if zero(segments) { 16 } else { segments };
+        let names = 256 + 32 * slots;
+        let end = (names + 64 * segments) as usize;
+        if image.len() < end {
+            return 52;
+        }
+        let clear = if self.has(Fault::CreateClearsAll) { image.len() } else { end };
+        let reserved = image[176..256].to_vec();
+        for byte in &mut image[..clear] {
+            *byte = 0;
+        }
+        if self.has(Fault::CreateKeepsReserved) {
+            image[176..256].copy_from_slice(&reserved);
+        }
+        let header: [(usize, &[u8]); 9] = [
+            (0, &0x65DF_65DF_65DF_65DF_u64.to_le_bytes()),
+            (8, &256_u64.to_le_bytes()),
+            (16, &slots.to_le_bytes()),
+            (24, &names.to_le_bytes()),
+            (32, &segments.to_le_bytes()),
+            (40, &schema_version.to_le_bytes()),
+            (44, &0x0002_0000_u32.to_le_bytes()),
+            (48, application),
+            (112, schema),
+        ];
+        for (at, bytes) in header {
+            image[at..at + bytes.len()].copy_from_slice(bytes);
+        }
+        0
+    }
+
+    fn append(&self, image: &mut [u8], sheet: &[u8], limit: u64, out: &mut [u64; 2]) -> u64 {
+        if !self.has(Fault::RefusedAppendKeepsOut) {
+            *out = [0, 0];
+        }
+        let stores = match self.stores(image, sheet) {
+            Ok(stores) => stores,
+            Err(_) if limit == 0 && self.has(Fault::LimitBeforeTests) => return 0,
+            Err(number) => return number,
+        };
+        let whole = stores.len() as u64;
+        let mut done = 0;
+        let mut changed = 0;
+        for (at, word) in stores {
+            let at = at as usize;
+            if done < limit || limit > 0 && self.has(Fault::AllStoresAtOnce) {
+                changed += u64::from(image[at..at + 8] != word);
+                image[at..at + 8].copy_from_slice(&word);
+                done += 1;
+            }
+        }
+        *out = [done.min(limit), whole];
+        if self.has(Fault::DoneCountsChanges) {
+            out[0] = changed;
+        }
+        0
+    }
+}

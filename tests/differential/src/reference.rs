@@ -1,0 +1,622 @@
+//! Document 01 in plain Rust, written from the paper alone.
+//!
+//! It is the independent second opinion of the differential tests and the baseline of the
+//! benchmark: a refusal is `Err` with its number, and nothing else is shared with the library.
+
+use std::collections::HashSet;
+use std::ffi::CStr;
+
+const HEADER: u64 = 256;
+const LONGEST_IMAGE: usize = 1 << 30;
+const MAGIC: [u8; 8] = [0xDF, 0x65, 0xDF, 0x65, 0xDF, 0x65, 0xDF, 0x65];
+const VERSION: u32 = 0x0002_0000;
+const SLOT: usize = 32;
+const SEGMENT: usize = 64;
+const WORD: usize = 8;
+const MOST_NAMES: usize = 1024;
+const MOST_ROWS: usize = 64;
+/// Longest list of slots or segments that create makes.
+const MOST_UNITS: u64 = 65_536;
+
+pub type Answer<T> = Result<T, u64>;
+
+#[derive(Clone, Copy, Debug, PartialEq, Eq)]
+pub struct Counts {
+    pub frames: u64,
+    pub names: u64,
+    pub entries: u64,
+}
+
+#[derive(Clone, Copy, Debug, PartialEq, Eq)]
+pub struct Entry {
+    pub frame: u64,
+    pub n: u64,
+    pub location: u64,
+    pub m: u32,
+    pub id: u16,
+    pub kind: u8,
+    pub flags: u8,
+}
+
+/// A single float and a double go by their bits.
+#[derive(Clone, Copy, Debug, PartialEq, Eq)]
+pub enum Element {
+    Unsigned(u64),
+    Signed(i64),
+    Single(u32),
+    Double(u64),
+}
+
+#[derive(Clone, Copy, Debug, PartialEq, Eq)]
+pub struct Stores {
+    pub done: u64,
+    pub whole: u64,
+}
+
+fn u32_at(bytes: &[u8], at: usize) -> u32 {
+    u32::from_le_bytes(bytes[at..at + 4].try_into().unwrap())
+}
+
+fn u64_at(bytes: &[u8], at: usize) -> u64 {
+    u64::from_le_bytes(bytes[at..at + 8].try_into().unwrap())
+}
+
+/// Bytes of one element, for types 1 to 10.
+fn size_of(kind: u8) -> Option<u64> {
+    match kind {
+        1 | 5 => Some(1),
+        2 | 6 => Some(2),
+        3 | 7 | 9 => Some(4),
+        4 | 8 | 10 => Some(8),
+        _ => None,
+    }
+}
+
+/// Bytes of N by M elements; `None` from 2^64 on, which is beyond every slice.
+fn bytes_of(n: u64, m: u32, size: u64) -> Option<u64> {
+    n.checked_mul(u64::from(m) * size)
+}
+
+impl Entry {
+    fn read(slot: &[u8; SLOT]) -> Entry {
+        Entry {
+            frame: u64_at(slot, 0),
+            n: u64_at(slot, 8),
+            location: u64_at(slot, 16),
+            m: u32_at(slot, 24),
+            id: u16::from_le_bytes([slot[28], slot[29]]),
+            kind: slot[30],
+            flags: slot[31],
+        }
+    }
+
+    fn to_bytes(self) -> [u8; SLOT] {
+        let mut slot = [0; SLOT];
+        slot[..8].copy_from_slice(&self.frame.to_le_bytes());
+        slot[8..16].copy_from_slice(&self.n.to_le_bytes());
+        slot[16..24].copy_from_slice(&self.location.to_le_bytes());
+        slot[24..28].copy_from_slice(&self.m.to_le_bytes());
+        slot[28..30].copy_from_slice(&self.id.to_le_bytes());
+        slot[30] = self.kind;
+        slot[31] = self.flags;
+        slot
+    }
+}
+
+/// A block of the image: `count` slots or segments from `start`, within the slice.
+#[derive(Clone, Copy)]
+struct Block {
+    start: usize,
+    end: usize,
+    count: usize,
+}
+
+impl Block {
+    fn read(image: &[u8], field: usize, unit: usize) -> Option<Block> {
+        let (start, count) = (u64_at(image, field), u64_at(image, field + 8));
+        let end = count.checked_mul(unit as u64)?.checked_add(start)?;
+        (start >= HEADER && end <= image.len() as u64).then_some(Block {
+            start: start as usize,
+            end: end as usize,
+            count: count as usize,
+        })
+    }
+
+    /// Whether this block and `start..end` share a byte, where both have one at all.
+    fn meets(self, start: usize, end: usize) -> bool {
+        start < self.end && self.start < end
+    }
+}
+
+/// An image that opened.
+struct Image<'a> {
+    bytes: &'a [u8],
+    index: Block,
+    entries: &'a [[u8; SLOT]],
+    frames: u64,
+    names_block: Block,
+    names: Vec<&'a [u8]>,
+    /// Where the name list ends, in its block.
+    list_end: usize,
+    /// The greatest of 256 and the ends of blocks and chunks.
+    end: usize,
+}
+
+impl<'a> Image<'a> {
+    fn open(bytes: &'a [u8]) -> Answer<Image<'a>> {
+        Image::open_with(bytes, equal_pair)
+    }
+
+    fn open_with(bytes: &'a [u8], two_equal: fn(&[&[u8]]) -> bool) -> Answer<Image<'a>> {
+        if bytes.len() < HEADER as usize {
+            return Err(1);
+        }
+        if bytes.len() > LONGEST_IMAGE {
+            return Err(2);
+        }
+        if bytes[..8] != MAGIC {
+            return Err(3);
+        }
+        if u32_at(bytes, 44) != VERSION {
+            return Err(4);
+        }
+        if !bytes[48..112].contains(&0) || !bytes[112..176].contains(&0) {
+            return Err(5);
+        }
+        let index = Block::read(bytes, 8, SLOT).ok_or(6_u64)?;
+        let names_block = Block::read(bytes, 24, SEGMENT).ok_or(7_u64)?;
+        let both = index.count > 0 && names_block.count > 0;
+        if both && index.meets(names_block.start, names_block.end) {
+            return Err(8);
+        }
+
+        let (names, list_end) = closed_names(&bytes[names_block.start..names_block.end])?;
+        if names.len() > MOST_NAMES {
+            return Err(10);
+        }
+        if two_equal(&names) {
+            return Err(11);
+        }
+
+        let (slots, _) = bytes[index.start..index.end].as_chunks::<SLOT>();
+        let mut listed = 0;
+        let mut frames = 0;
+        let mut last_id = 0;
+        let mut end = index.end.max(names_block.end);
+        for slot in slots {
+            let entry = Entry::read(slot);
+            if entry.location == 0 {
+                break;
+            }
+            if (entry.location as i64) < HEADER as i64 {
+                return Err(12);
+            }
+            let size = size_of(entry.kind).ok_or(13_u64)?;
+            if usize::from(entry.id) >= names.len() {
+                return Err(14);
+            }
+            let opens_frame = entry.frame == frames;
+            let goes_on = frames > 0 && entry.frame == frames - 1 && entry.id > last_id;
+            if !opens_frame && !goes_on {
+                return Err(15);
+            }
+            let chunk_end = bytes_of(entry.n, entry.m, size)
+                .and_then(|length| length.checked_add(entry.location))
+                .filter(|&end| end <= bytes.len() as u64)
+                .ok_or(16_u64)? as usize;
+            // Both blocks have bytes: one holds this entry, the other its name.
+            let location = entry.location as usize;
+            let meets = index.meets(location, chunk_end) || names_block.meets(location, chunk_end);
+            if meets && location < chunk_end {
+                return Err(17);
+            }
+            end = end.max(chunk_end);
+            frames = entry.frame + 1;
+            last_id = entry.id;
+            listed += 1;
+        }
+        Ok(Image {
+            bytes,
+            index,
+            entries: &slots[..listed],
+            frames,
+            names_block,
+            names,
+            list_end,
+            end,
+        })
+    }
+
+    fn counts(&self) -> Counts {
+        Counts {
+            frames: self.frames,
+            names: self.names.len() as u64,
+            entries: self.entries.len() as u64,
+        }
+    }
+
+    fn id_of(&self, name: &[u8]) -> Option<u16> {
+        self.names.iter().position(|&listed| listed == name).map(|id| id as u16)
+    }
+
+    fn lookup(&self, frame: u64, name: &[u8]) -> Answer<Entry> {
+        if frame >= self.frames {
+            return Err(40);
+        }
+        let id = self.id_of(name).ok_or(41_u64)?;
+        self.entries
+            .binary_search_by_key(&(frame, id), |slot| {
+                let entry = Entry::read(slot);
+                (entry.frame, entry.id)
+            })
+            .map(|found| Entry::read(&self.entries[found]))
+            .map_err(|_| 42)
+    }
+
+    /// The bytes of a listed chunk, which lies within the slice.
+    fn data(&self, entry: Entry) -> &'a [u8] {
+        let length = size_of(entry.kind).and_then(|size| bytes_of(entry.n, entry.m, size));
+        &self.bytes[entry.location as usize..][..length.unwrap_or(0) as usize]
+    }
+}
+
+/// The closed names of a block, and where their list ends.
+fn closed_names(block: &[u8]) -> Answer<(Vec<&[u8]>, usize)> {
+    let mut names = Vec::with_capacity(16);
+    let mut at = 0;
+    while block.get(at).is_some_and(|&first| first != 0) {
+        let name = CStr::from_bytes_until_nul(&block[at..]).map_err(|_| 9_u64)?.to_bytes();
+        at += name.len() + 1;
+        names.push(name);
+    }
+    Ok((names, at))
+}
+
+/// Pair by pair, as document 01 has it: best for the few names of most images.
+fn equal_pair(names: &[&[u8]]) -> bool {
+    names.iter().enumerate().any(|(later, name)| names[..later].contains(name))
+}
+
+fn equal_in_table(names: &[&[u8]]) -> bool {
+    let mut seen = HashSet::with_capacity(names.len());
+    !names.iter().all(|name| seen.insert(name))
+}
+
+pub fn open(image: &[u8]) -> Answer<Counts> {
+    Ok(Image::open(image)?.counts())
+}
+
+/// [`open`] with a hash table in place of the pairs; for the benchmark, to show what they cost.
+pub fn open_with_table(image: &[u8]) -> Answer<Counts> {
+    Ok(Image::open_with(image, equal_in_table)?.counts())
+}
+
+/// The n-th name, as a part of the image.
+pub fn name(image: &[u8], n: u64) -> Answer<&[u8]> {
+    let image = Image::open(image)?;
+    usize::try_from(n).ok().and_then(|n| image.names.get(n).copied()).ok_or(44)
+}
+
+pub fn entry(image: &[u8], n: u64) -> Answer<Entry> {
+    let image = Image::open(image)?;
+    usize::try_from(n).ok().and_then(|n| image.entries.get(n)).map(Entry::read).ok_or(44)
+}
+
+pub fn lookup(image: &[u8], frame: u64, name: &[u8]) -> Answer<Entry> {
+    Image::open(image)?.lookup(frame, name)
+}
+
+/// The bytes of a chunk, as a part of the image.
+pub fn chunk<'a>(image: &'a [u8], frame: u64, name: &[u8]) -> Answer<&'a [u8]> {
+    let image = Image::open(image)?;
+    Ok(image.data(image.lookup(frame, name)?))
+}
+
+pub fn element(image: &[u8], frame: u64, name: &[u8], k: u64) -> Answer<Element> {
+    let image = Image::open(image)?;
+    let entry = image.lookup(frame, name)?;
+    // A listed chunk lies within the slice, so its number of elements does not wrap.
+    if k >= entry.n * u64::from(entry.m) {
+        return Err(43);
+    }
+    fn at<const SIZE: usize>(data: &[u8], k: u64) -> [u8; SIZE] {
+        data.as_chunks().0[k as usize]
+    }
+    let data = image.data(entry);
+    Ok(match entry.kind {
+        1 => Element::Unsigned(u8::from_le_bytes(at(data, k)).into()),
+        2 => Element::Unsigned(u16::from_le_bytes(at(data, k)).into()),
+        3 => Element::Unsigned(u32::from_le_bytes(at(data, k)).into()),
+        4 => Element::Unsigned(u64::from_le_bytes(at(data, k))),
+        5 => Element::Signed(i8::from_le_bytes(at(data, k)).into()),
+        6 => Element::Signed(i16::from_le_bytes(at(data, k)).into()),
+        7 => Element::Signed(i32::from_le_bytes(at(data, k)).into()),
+        8 => Element::Signed(i64::from_le_bytes(at(data, k))),
+        9 => Element::Single(u32::from_le_bytes(at(data, k))),
+        10 => Element::Double(u64::from_le_bytes(at(data, k))),
+        _ => unreachable!("a listed entry has a known type"),
+    })
+}
+
+pub fn create(
+    image: &mut [u8],
+    application: &[u8],
+    schema: &[u8],
+    schema_version: u32,
+    slots: u64,
+    segments: u64,
+) -> Answer<()> {
+    if image.len() > LONGEST_IMAGE {
+        return Err(2);
+    }
+    if slots > MOST_UNITS || segments > MOST_UNITS {
+        return Err(50);
+    }
+    if [application, schema].iter().any(|text| text.len() > 63 || text.contains(&0)) {
+        return Err(51);
+    }
+    let slots = if slots == 0 { 64 } else { slots };
+    let segments = if segments == 0 { 16 } else { segments };
+    let names = HEADER + SLOT as u64 * slots;
+    let end = (names + SEGMENT as u64 * segments) as usize;
+    let fresh = image.get_mut(..end).ok_or(52_u64)?;
+
+    fresh.fill(0);
+    fresh[..8].copy_from_slice(&MAGIC);
+    for (at, number) in [(8, HEADER), (16, slots), (24, names), (32, segments)] {
+        fresh[at..at + 8].copy_from_slice(&number.to_le_bytes());
+    }
+    fresh[40..44].copy_from_slice(&schema_version.to_le_bytes());
+    fresh[44..48].copy_from_slice(&VERSION.to_le_bytes());
+    fresh[48..][..application.len()].copy_from_slice(application);
+    fresh[112..][..schema.len()].copy_from_slice(schema);
+    Ok(())
+}
+
+/// A row of an append sheet.
+struct Row<'s> {
+    n: u64,
+    m: u32,
+    kind: u8,
+    name: &'s [u8],
+    data: &'s [u8],
+}
+
+fn rows(sheet: &[u8]) -> Answer<Vec<Row<'_>>> {
+    let (count, rest) = sheet.split_first_chunk().ok_or(22_u64)?;
+    let count = u32::from_le_bytes(*count) as usize;
+    if count == 0 || count > MOST_ROWS {
+        return Err(22);
+    }
+    let (table, mut bodies) = rest.split_at_checked(16 * count).ok_or(23_u64)?;
+    let (table, _) = table.as_chunks::<16>();
+    if table.iter().any(|row| size_of(row[12]).is_none() || row[13] == 0 || row[14..] != [0, 0]) {
+        return Err(24);
+    }
+    let mut rows = Vec::with_capacity(count);
+    for row in table {
+        let (n, m, kind) = (u64_at(row, 0), u32_at(row, 8), row[12]);
+        let length = size_of(kind).and_then(|size| bytes_of(n, m, size)).ok_or(25_u64)?;
+        let (name, rest) = bodies.split_at_checked(row[13].into()).ok_or(25_u64)?;
+        let length = usize::try_from(length).map_err(|_| 25_u64)?;
+        let (data, rest) = rest.split_at_checked(length).ok_or(25_u64)?;
+        rows.push(Row { n, m, kind, name, data });
+        bodies = rest;
+    }
+    if !bodies.is_empty() {
+        return Err(25);
+    }
+    if rows.iter().any(|row| row.name.contains(&0)) {
+        return Err(26);
+    }
+    let twice = |(later, row): (usize, &Row)| rows[..later].iter().any(|r| r.name == row.name);
+    if rows.iter().enumerate().any(twice) {
+        return Err(27);
+    }
+    Ok(rows)
+}
+
+/// Where an append stores what. It holds numbers of the image, no part of it.
+struct Plan<'s> {
+    index: Block,
+    entries: usize,
+    frame: u64,
+    names: Block,
+    list_end: usize,
+    rows: Vec<Row<'s>>,
+    /// For each row its data's place.
+    locations: Vec<usize>,
+    new_names: Vec<&'s [u8]>,
+    moved_names: Option<Block>,
+    moved_index: Option<Block>,
+    /// Ids and row numbers, by id.
+    order: Vec<(u16, usize)>,
+}
+
+/// A block at `start` that has room for `needed` bytes, in place of one that has not.
+fn moved(old: Block, unit: usize, needed: usize, start: usize) -> Option<Block> {
+    (needed > unit * old.count).then(|| {
+        let mut count = 2 * old.count.max(1);
+        while unit * count < needed {
+            count *= 2;
+        }
+        Block { start, end: start + unit * count, count }
+    })
+}
+
+impl<'s> Plan<'s> {
+    fn new(image: &[u8], sheet: &'s [u8]) -> Answer<Plan<'s>> {
+        let image = Image::open(image)?;
+        let (index, names) = (image.index, image.names_block);
+        if index.start % WORD != 0 || names.start % WORD != 0 {
+            return Err(21);
+        }
+        let rows = rows(sheet)?;
+
+        let mut new_names = Vec::new();
+        let mut order = Vec::with_capacity(rows.len());
+        for (number, row) in rows.iter().enumerate() {
+            let id = image.id_of(row.name).unwrap_or_else(|| {
+                new_names.push(row.name);
+                (image.names.len() + new_names.len() - 1) as u16
+            });
+            order.push((id, number));
+        }
+        if image.names.len() + new_names.len() > MOST_NAMES {
+            return Err(28);
+        }
+        order.sort_unstable();
+
+        let mut position = image.end.next_multiple_of(WORD);
+        let mut locations = Vec::with_capacity(rows.len());
+        for row in &rows {
+            locations.push(position);
+            position += row.data.len().next_multiple_of(WORD);
+        }
+        let text = image.list_end + new_names.iter().map(|name| name.len() + 1).sum::<usize>();
+        let moved_names = moved(names, SEGMENT, text, position);
+        position = moved_names.map_or(position, |block| block.end);
+        let listed = SLOT * (image.entries.len() + rows.len());
+        let moved_index = moved(index, SLOT, listed, position);
+        position = moved_index.map_or(position, |block| block.end);
+        if position > image.bytes.len() {
+            return Err(29);
+        }
+        Ok(Plan {
+            index,
+            entries: image.entries.len(),
+            frame: image.frames,
+            names,
+            list_end: image.list_end,
+            rows,
+            locations,
+            new_names,
+            moved_names,
+            moved_index,
+            order,
+        })
+    }
+
+    /// Makes the stores, in the paper's six steps.
+    fn store(&self, to: &mut Writer) {
+        to.clear(self.index.start + SLOT * self.entries, self.index.end);
+        to.clear(self.names.start + self.list_end, self.names.end);
+
+        for (row, &location) in self.rows.iter().zip(&self.locations) {
+            to.text(location, row.data);
+        }
+
+        let mut names = self.names;
+        if let Some(block) = self.moved_names {
+            to.copy(names.start, self.list_end, block);
+            to.number(24, block.start);
+            to.number(32, block.count);
+            names = block;
+        }
+        let mut at = names.start + self.list_end;
+        for name in &self.new_names {
+            to.name(at, name);
+            at += name.len() + 1;
+        }
+
+        let mut index = self.index;
+        if let Some(block) = self.moved_index {
+            to.copy(index.start, SLOT * self.entries, block);
+            to.number(8, block.start);
+            to.number(16, block.count);
+            index = block;
+        }
+        for (place, &(id, number)) in self.order.iter().enumerate().rev() {
+            let row = &self.rows[number];
+            let entry = Entry {
+                frame: self.frame,
+                n: row.n,
+                location: self.locations[number] as u64,
+                m: row.m,
+                id,
+                kind: row.kind,
+                flags: 0,
+            };
+            to.entry(index.start + SLOT * (self.entries + place), entry.to_bytes());
+        }
+    }
+}
+
+/// Makes the first `limit` of the stores it is given, and counts them all. Only the slice at the
+/// call's end is seen, so stores upwards are made as one copy of as many words as the limit allows.
+struct Writer<'a> {
+    image: &'a mut [u8],
+    limit: u64,
+    whole: u64,
+}
+
+impl Writer<'_> {
+    /// Counts `words` stores and answers how many of them to make.
+    fn take(&mut self, words: usize) -> usize {
+        let left = self.limit.saturating_sub(self.whole);
+        self.whole += words as u64;
+        left.min(words as u64) as usize
+    }
+
+    /// Clears from the word that holds `from`, keeping the bytes before it.
+    fn clear(&mut self, from: usize, end: usize) {
+        let first = from - from % WORD;
+        let until = first + WORD * self.take((end - first) / WORD);
+        if from < until {
+            self.image[from..until].fill(0);
+        }
+    }
+
+    /// Stores a text, padded with zeros to whole words.
+    fn text(&mut self, at: usize, text: &[u8]) {
+        let bytes = WORD * self.take(text.len().div_ceil(WORD));
+        let (head, pad) = self.image[at..at + bytes].split_at_mut(text.len().min(bytes));
+        head.copy_from_slice(&text[..head.len()]);
+        pad.fill(0);
+    }
+
+    /// Stores a whole new block: `length` bytes of the old one, then zeros.
+    fn copy(&mut self, from: usize, length: usize, to: Block) {
+        let bytes = WORD * self.take((to.end - to.start) / WORD);
+        let length = length.min(bytes);
+        self.image.copy_within(from..from + length, to.start);
+        self.image[to.start + length..to.start + bytes].fill(0);
+    }
+
+    /// Stores a name behind the list, from its highest word to its lowest.
+    fn name(&mut self, at: usize, name: &[u8]) {
+        let end = at + name.len();
+        let (lowest, highest) = (at - at % WORD, (end - 1) - (end - 1) % WORD);
+        let words = self.take((highest - lowest) / WORD + 1);
+        let from = at.max(highest + WORD - WORD * words);
+        if from < end {
+            self.image[from..end].copy_from_slice(&name[from - at..]);
+        }
+    }
+
+    fn word(&mut self, at: usize, word: [u8; WORD]) {
+        if self.take(1) == 1 {
+            self.image[at..at + WORD].copy_from_slice(&word);
+        }
+    }
+
+    fn number(&mut self, at: usize, number: usize) {
+        self.word(at, (number as u64).to_le_bytes());
+    }
+
+    /// Stores an entry, its location at last.
+    fn entry(&mut self, at: usize, entry: [u8; SLOT]) {
+        let (words, _) = entry.as_chunks::<WORD>();
+        for word in [0, 1, 3, 2] {
+            self.word(at + WORD * word, words[word]);
+        }
+    }
+}
+
+pub fn append(image: &mut [u8], sheet: &[u8], limit: u64) -> Answer<Stores> {
+    let plan = Plan::new(image, sheet)?;
+    let mut writer = Writer { image, limit, whole: 0 };
+    plan.store(&mut writer);
+    let whole = writer.whole;
+    Ok(Stores { done: limit.min(whole), whole })
+}

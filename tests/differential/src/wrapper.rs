@@ -1,0 +1,94 @@
+//! The safe Rust calls of the package dialmoth say what the C functions say.
+
+use crate::ask::Ask;
+use crate::generate;
+use crate::images::{sheet, size};
+use crate::library::Linked;
+use crate::random::Rng;
+use dialmoth::{Element, Refusal, Row, Type};
+
+const TYPES: [Type; 10] = [
+    Type::U8,
+    Type::U16,
+    Type::U32,
+    Type::U64,
+    Type::I8,
+    Type::I16,
+    Type::I32,
+    Type::I64,
+    Type::Float,
+    Type::Double,
+];
+
+fn fields(e: dialmoth::Entry) -> [u64; 7] {
+    [e.frame, e.n, e.location, e.m.into(), e.id.into(), e.kind as u64, e.flags.into()]
+}
+
+fn kind_and_bits(element: Element) -> [u64; 2] {
+    match element {
+        Element::Unsigned(number) => [1, number],
+        Element::Signed(number) => [2, number as u64],
+        Element::Single(float) => [3, float.to_bits().into()],
+        Element::Double(float) => [4, float.to_bits()],
+    }
+}
+
+fn number(refusal: Refusal) -> u64 {
+    refusal.0
+}
+
+/// Panics at the first difference.
+pub fn hold() {
+    for (at, kind) in TYPES.into_iter().enumerate() {
+        assert_eq!((kind as usize, kind.size()), (at + 1, size(at as u8 + 1) as u64));
+    }
+    let mut rng = Rng::new(7);
+    for _ in 0..300 {
+        let mut image = generate::fresh(&mut rng);
+        let mut known = vec![b"no such name".to_vec()];
+        for _ in 0..4 {
+            let rows = generate::rows(&mut rng, &known);
+            let own: Vec<_> = rows
+                .iter()
+                .map(|row| Row {
+                    name: &row.name,
+                    kind: TYPES[usize::from(row.kind) - 1],
+                    n: row.n,
+                    m: row.m,
+                    data: &row.data,
+                })
+                .collect();
+            let sheet = sheet(&rows);
+            assert_eq!(dialmoth::sheet(&own), sheet);
+            let limit = generate::limit(&mut rng);
+            let (after, stores) = Linked.after(&image, &sheet, limit);
+            let done = dialmoth::append(&mut image, &sheet, limit).map_err(number);
+            assert_eq!(done.map(|s| [s.done, s.whole]), stores);
+            assert_eq!(image, after);
+            known.extend(rows.into_iter().map(|row| row.name).take(4));
+        }
+        let counts = dialmoth::open(&image).map_err(number);
+        assert_eq!(counts.map(|c| [c.frames, c.names, c.entries]), Linked.counts(&image));
+        for n in 0..20 {
+            assert_eq!(dialmoth::name(&image, n).map_err(number), Linked.nth_name(&image, n));
+            let entry = dialmoth::entry(&image, n).map(fields).map_err(number);
+            assert_eq!(entry, Linked.nth_entry(&image, n));
+        }
+        for (frame, name) in (0..5).flat_map(|frame| known.iter().map(move |name| (frame, name))) {
+            let found = dialmoth::lookup(&image, frame, name).map(fields).map_err(number);
+            assert_eq!(found, Linked.find(&image, frame, name));
+            let bytes = dialmoth::chunk(&image, frame, name).map_err(number);
+            assert_eq!(bytes, Linked.bytes(&image, frame, name));
+            for k in 0..3 {
+                let element = dialmoth::element(&image, frame, name, k);
+                let element = element.map(kind_and_bits).map_err(number);
+                assert_eq!(element, Linked.nth_element(&image, frame, name, k));
+            }
+        }
+    }
+    let mut image = [9; 400];
+    assert_eq!(dialmoth::create(&mut image, b"a", b"s", 3, 2, 2), Err(Refusal(52)));
+    assert_eq!(dialmoth::create(&mut image, b"a", b"s", 3, 2, 1), Ok(()));
+    let counts = dialmoth::Counts { frames: 0, names: 0, entries: 0 };
+    assert_eq!(dialmoth::open(&image), Ok(counts));
+}

@@ -1,0 +1,150 @@
+/*
+ * The library's calls on files, for the interoperation tests.
+ *
+ *   peer create FILE LENGTH SLOTS SEGMENTS   writes a fresh image; prints the number
+ *   peer append FILE SHEET LIMIT             appends; prints the number, stores done and whole
+ *   peer list FILE                           prints the number; if 0, the counts, then a line
+ *                                            "name HEX" for each name and for each entry
+ *                                            "entry frame N location M id type flags start length",
+ *                                            start and length as the chunk is handed out, then its
+ *                                            elements as kind:bits
+ */
+#include "dialmoth.h"
+
+#include <inttypes.h>
+#include <stdio.h>
+#include <stdlib.h>
+#include <string.h>
+
+struct bytes {
+    uint8_t *start;
+    size_t length;
+};
+
+static void fail(const char *what)
+{
+    perror(what);
+    exit(2);
+}
+
+static struct bytes load(const char *path)
+{
+    struct bytes bytes;
+    FILE *file = fopen(path, "rb");
+    long length;
+
+    if (file == NULL || fseek(file, 0, SEEK_END) != 0 || (length = ftell(file)) < 0)
+        fail(path);
+    rewind(file);
+    bytes.length = (size_t)length;
+    bytes.start = malloc(bytes.length + 1);
+    if (bytes.start == NULL || fread(bytes.start, 1, bytes.length, file) != bytes.length)
+        fail(path);
+    fclose(file);
+    return bytes;
+}
+
+static void save(const char *path, struct bytes bytes)
+{
+    FILE *file = fopen(path, "wb");
+    if (file == NULL || fwrite(bytes.start, 1, bytes.length, file) != bytes.length || fclose(file) != 0)
+        fail(path);
+}
+
+static uint64_t number(const char *text)
+{
+    return strtoull(text, NULL, 10);
+}
+
+static int create(const char *path, size_t length, uint64_t slots, uint64_t segments)
+{
+    struct bytes image;
+    uint64_t refused;
+
+    image.length = length;
+    image.start = calloc(length + 1, 1);
+    if (image.start == NULL)
+        fail("image");
+    refused = dialmoth_create(image.start, image.length, (const uint8_t *)"dialmoth", 8,
+                              (const uint8_t *)"interop", 7, 0x00010002, slots, segments);
+    printf("%" PRIu64 "\n", refused);
+    save(path, image);
+    return 0;
+}
+
+static int append(const char *path, const char *sheet_path, uint64_t limit)
+{
+    struct bytes image = load(path), sheet = load(sheet_path);
+    uint64_t stores[2];
+    uint64_t refused =
+        dialmoth_append(image.start, image.length, sheet.start, sheet.length, limit, stores);
+
+    printf("%" PRIu64 " %" PRIu64 " %" PRIu64 "\n", refused, stores[0], stores[1]);
+    save(path, image);
+    return 0;
+}
+
+static int list(const char *path)
+{
+    struct bytes image = load(path);
+    uint64_t counts[3], place[2], entry[DIALMOTH_ENTRY_FIELDS], found[DIALMOTH_ENTRY_FIELDS];
+    uint64_t refused = dialmoth_open(image.start, image.length, counts);
+    uint64_t n, k;
+
+    printf("%" PRIu64 "\n", refused);
+    if (refused != 0)
+        return 0;
+    printf("%" PRIu64 " %" PRIu64 " %" PRIu64 "\n", counts[0], counts[1], counts[2]);
+    for (n = 0; n < counts[1]; n++) {
+        if (dialmoth_name(image.start, image.length, n, place) != 0)
+            return 1;
+        printf("name ");
+        for (k = 0; k < place[1]; k++)
+            printf("%02x", image.start[place[0] + k]);
+        printf("\n");
+    }
+    for (n = 0; n < counts[2]; n++) {
+        const uint8_t *name;
+        uint64_t frame;
+
+        if (dialmoth_entry(image.start, image.length, n, entry) != 0
+            || dialmoth_name(image.start, image.length, entry[DIALMOTH_ENTRY_ID], place) != 0)
+            return 1;
+        name = image.start + place[0];
+        frame = entry[DIALMOTH_ENTRY_FRAME];
+        if (dialmoth_lookup(image.start, image.length, frame, name, place[1], found) != 0
+            || memcmp(entry, found, sizeof entry) != 0)
+            return 1;
+        printf("entry");
+        for (k = 0; k < DIALMOTH_ENTRY_FIELDS; k++)
+            printf(" %" PRIu64, entry[k]);
+        {
+            uint64_t chunk[2], element[2];
+            if (dialmoth_chunk(image.start, image.length, frame, name, place[1], chunk) != 0)
+                return 1;
+            printf(" %" PRIu64 " %" PRIu64, chunk[0], chunk[1]);
+            for (k = 0; k < 64; k++) {
+                refused = dialmoth_element(image.start, image.length, frame, name, place[1], k, element);
+                if (refused == 43)
+                    break;
+                if (refused != 0)
+                    return 1;
+                printf(" %" PRIu64 ":%" PRIu64, element[0], element[1]);
+            }
+        }
+        printf("\n");
+    }
+    return 0;
+}
+
+int main(int count, char **words)
+{
+    if (count == 6 && strcmp(words[1], "create") == 0)
+        return create(words[2], (size_t)number(words[3]), number(words[4]), number(words[5]));
+    if (count == 5 && strcmp(words[1], "append") == 0)
+        return append(words[2], words[3], number(words[4]));
+    if (count == 3 && strcmp(words[1], "list") == 0)
+        return list(words[2]);
+    fprintf(stderr, "usage: peer create|append|list ..\n");
+    return 2;
+}

@@ -1,0 +1,120 @@
+//! The eight functions of include/dialmoth.h over the plain Rust implementation.
+//!
+//! It is no part of the library. The differential tests, the examples, the interoperation tests
+//! and the benchmark can be tried on it where there is no libdialmoth.a.
+
+use differential::library::{Create, Library, Reference};
+use std::slice::{from_raw_parts as part, from_raw_parts_mut as part_mut};
+
+/// # Safety
+/// Pointers as include/dialmoth.h has them; the same for all functions here.
+#[no_mangle]
+pub unsafe extern "C" fn dialmoth_open(image: *const u8, length: usize, out: *mut u64) -> u64 {
+    Reference.open(part(image, length), &mut *out.cast())
+}
+
+/// # Safety
+/// As `dialmoth_open`.
+#[no_mangle]
+pub unsafe extern "C" fn dialmoth_name(
+    image: *const u8,
+    length: usize,
+    n: u64,
+    out: *mut u64,
+) -> u64 {
+    Reference.name(part(image, length), n, &mut *out.cast())
+}
+
+/// # Safety
+/// As `dialmoth_open`.
+#[no_mangle]
+pub unsafe extern "C" fn dialmoth_entry(
+    image: *const u8,
+    length: usize,
+    n: u64,
+    out: *mut u64,
+) -> u64 {
+    Reference.entry(part(image, length), n, &mut *out.cast())
+}
+
+/// # Safety
+/// As `dialmoth_open`.
+#[no_mangle]
+pub unsafe extern "C" fn dialmoth_lookup(
+    image: *const u8,
+    length: usize,
+    frame: u64,
+    name: *const u8,
+    name_length: usize,
+    out: *mut u64,
+) -> u64 {
+    Reference.lookup(part(image, length), frame, part(name, name_length), &mut *out.cast())
+}
+
+/// # Safety
+/// As `dialmoth_open`.
+#[no_mangle]
+pub unsafe extern "C" fn dialmoth_chunk(
+    image: *const u8,
+    length: usize,
+    frame: u64,
+    name: *const u8,
+    name_length: usize,
+    out: *mut u64,
+) -> u64 {
+    Reference.chunk(part(image, length), frame, part(name, name_length), &mut *out.cast())
+}
+
+/// # Safety
+/// As `dialmoth_open`.
+#[no_mangle]
+pub unsafe extern "C" fn dialmoth_element(
+    image: *const u8,
+    length: usize,
+    frame: u64,
+    name: *const u8,
+    name_length: usize,
+    k: u64,
+    out: *mut u64,
+) -> u64 {
+    Reference.element(part(image, length), frame, part(name, name_length), k, &mut *out.cast())
+}
+
+/// # Safety
+/// As `dialmoth_open`.
+#[no_mangle]
+pub unsafe extern "C" fn dialmoth_create(
+    image: *mut u8,
+    length: usize,
+    application: *const u8,
+    application_length: usize,
+    schema: *const u8,
+    schema_length: usize,
+    schema_version: u32,
+    slots: u64,
+    segments: u64,
+) -> u64 {
+    let request = Create {
+        application: part(application, application_length),
+        schema: part(schema, schema_length),
+        schema_version,
+        slots,
+        segments,
+    };
+    Reference.create(part_mut(image, length), request)
+}
+
+/// # Safety
+/// As `dialmoth_open`.
+#[no_mangle]
+pub unsafe extern "C" fn dialmoth_append(
+    image: *mut u8,
+    length: usize,
+    sheet: *const u8,
+    sheet_length: usize,
+    limit: u64,
+    out: *mut u64,
+) -> u64 {
+    let sheet = part(sheet, sheet_length);
+    Reference.append(part_mut(image, length), sheet, limit, &mut *out.cast())
+}
