@@ -1,5 +1,5 @@
-// Worked cases of the paper, and the edges of reading and creating by their names in the list of readings, each on an
-// image that is built for it: what is asked, what is answered, and at the end how many answers are wrong.
+// Worked cases, and the edges of reading and creating, each on an image that is built for it: what is asked, what is
+// answered, and at the end how many answers are wrong.
 mod ask;
 mod build;
 mod tally;
@@ -26,12 +26,12 @@ fn with_magic(magic: &[u8]) -> u64 {
 
 fn magics(t: Tally) -> Tally {
     let t = t.with(
-        b"B14 magic from DF on",
+        b"magic from DF on",
         with_magic(b"\xdf\x65\xdf\x65\xdf\x65\xdf\x65"),
         0,
     );
     t.with(
-        b"B14 magic from 65 on",
+        b"magic from 65 on",
         with_magic(b"\x65\xdf\x65\xdf\x65\xdf\x65\xdf"),
         3,
     )
@@ -54,37 +54,29 @@ fn with_names(location: u64, segments: u64) -> u64 {
 }
 
 fn index_blocks(t: Tally) -> Tally {
-    let t = t.with(b"A3 empty index block at 0", with_index(0, 0), 6);
-    let t = t.with(b"A3 empty index block at 255", with_index(255, 0), 6);
-    let t = t.with(b"A3 empty index block at the end", with_index(4096, 0), 0);
+    let t = t.with(b"empty index block at 0", with_index(0, 0), 6);
+    let t = t.with(b"empty index block at 255", with_index(255, 0), 6);
+    let t = t.with(b"empty index block at the end", with_index(4096, 0), 0);
+    let t = t.with(b"empty index block behind the end", with_index(4097, 0), 6);
     let t = t.with(
-        b"A3 empty index block behind the end",
-        with_index(4097, 0),
-        6,
-    );
-    let t = t.with(
-        b"A3 empty index block in the name block",
+        b"empty index block in the name block",
         with_index(330, 0),
         0,
     );
-    t.with(b"B1 2^59 slots", with_index(256, 576460752303423488), 6)
+    t.with(b"2^59 slots", with_index(256, 576460752303423488), 6)
 }
 
 fn name_blocks(t: Tally) -> Tally {
-    let t = t.with(b"A3 empty name block at 0", with_names(0, 0), 7);
-    let t = t.with(b"A3 empty name block at 255", with_names(255, 0), 7);
-    let t = t.with(b"A3 empty name block at the end", with_names(4096, 0), 0);
+    let t = t.with(b"empty name block at 0", with_names(0, 0), 7);
+    let t = t.with(b"empty name block at 255", with_names(255, 0), 7);
+    let t = t.with(b"empty name block at the end", with_names(4096, 0), 0);
+    let t = t.with(b"empty name block behind the end", with_names(4097, 0), 7);
     let t = t.with(
-        b"A3 empty name block behind the end",
-        with_names(4097, 0),
-        7,
-    );
-    let t = t.with(
-        b"A3 empty name block in the index block",
+        b"empty name block in the index block",
         with_names(260, 0),
         0,
     );
-    t.with(b"B1 2^58 segments", with_names(320, 288230376151711744), 7)
+    t.with(b"2^58 segments", with_names(320, 288230376151711744), 7)
 }
 
 // The names.
@@ -107,17 +99,17 @@ fn numbers_of_names(t: Tally) -> Tally {
 fn name_lists(t: Tally) -> Tally {
     let rest = [120u8; 61];
     let t = t.with(
-        b"A2 one not closed behind 1025 names",
+        b"one not closed behind 1025 names",
         ask::opening(&named(1025, &rest)),
         9,
     );
     let t = t.with(
-        b"A2 two equal among 1025 names",
+        b"two equal among 1025 names",
         ask::opening(&named(1024, b"00")),
         10,
     );
     t.with(
-        b"A2 two equal among 1024 names",
+        b"two equal among 1024 names",
         ask::opening(&named(1023, b"00")),
         11,
     )
@@ -130,9 +122,9 @@ fn long_names(t: Tally) -> Tally {
     e.location = 640;
     put_entry(&mut image, 256, e);
     put_text(&mut image, 320, &name);
-    let t = t.with(b"B16 a name of 300 bytes", ask::opening(&image), 0);
-    let t = t.with(b"B16 its size", ask::name_size(&image, 0), 300);
-    t.with(b"B16 its lookup", ask::lookup(&image, 0, &name), 0)
+    let t = t.with(b"a name of 300 bytes", ask::opening(&image), 0);
+    let t = t.with(b"its size", ask::name_size(&image, 0), 300);
+    t.with(b"its lookup", ask::lookup(&image, 0, &name), 0)
 }
 
 // The entries.
@@ -155,27 +147,19 @@ fn with_chunk(location: u64, n: u64, m: u32, kind: u8) -> u64 {
 }
 
 fn empty_chunks(t: Tally) -> Tally {
-    let t = t.with(b"A3 empty chunk at the end", with_chunk(4096, 0, 1, 9), 0);
+    let t = t.with(b"empty chunk at the end", with_chunk(4096, 0, 1, 9), 0);
+    let t = t.with(b"empty chunk behind the end", with_chunk(4097, 0, 1, 9), 16);
     let t = t.with(
-        b"A3 empty chunk behind the end",
-        with_chunk(4097, 0, 1, 9),
-        16,
-    );
-    let t = t.with(
-        b"A3 empty chunk in the index block",
+        b"empty chunk in the index block",
         with_chunk(257, 0, 1, 9),
         0,
     );
     let t = t.with(
-        b"A3 empty chunk in the name block",
+        b"empty chunk in the name block",
         with_chunk(321, 0, 1, 9),
         0,
     );
-    t.with(
-        b"A3 one byte in the name block",
-        with_chunk(321, 1, 1, 1),
-        17,
-    )
+    t.with(b"one byte in the name block", with_chunk(321, 1, 1, 1), 17)
 }
 
 fn chunks(t: Tally) -> Tally {
@@ -185,26 +169,26 @@ fn chunks(t: Tally) -> Tally {
         12,
     );
     let t = t.with(
-        b"B2 N 2^62, M 4",
+        b"N 2^62, M 4",
         with_chunk(384, 4611686018427387904, 4, 1),
         16,
     );
     let t = t.with(
-        b"B2 N 2^64-1, M 0",
+        b"N 2^64-1, M 0",
         with_chunk(384, 18446744073709551615, 0, 1),
         0,
     );
     let t = t.with(
-        b"B3 location -2^63",
+        b"location -2^63",
         with_chunk(9223372036854775808, 1, 1, 1),
         12,
     );
     let t = t.with(
-        b"B3 location 2^63-1",
+        b"location 2^63-1",
         with_chunk(9223372036854775807, 1, 1, 1),
         16,
     );
-    t.with(b"B6 type 0", with_chunk(384, 3, 1, 0), 13)
+    t.with(b"type 0", with_chunk(384, 3, 1, 0), 13)
 }
 
 // Three slots: an entry, one with location 0 that no test would pass, and one that looks well.
@@ -247,16 +231,16 @@ fn with_two() -> u64 {
 fn entry_lists(t: Tally) -> Tally {
     let image = ended();
     let t = t.with(
-        b"B4 a slot with location 0, then an entry",
+        b"a slot with location 0, then an entry",
         ask::opening(&image),
         0,
     );
-    let t = t.with(b"B4 entries before that slot", ask::entries(&image), 1);
-    let t = t.with(b"B5 16 in entry 0 and 12 in entry 1", with_two(), 16);
+    let t = t.with(b"entries before that slot", ask::entries(&image), 1);
+    let t = t.with(b"16 in entry 0 and 12 in entry 1", with_two(), 16);
     let mut e = probe();
     e.kind = 11;
     e.id = 1;
-    t.with(b"B5 unknown type and unlisted id", with_entry(e), 13)
+    t.with(b"unknown type and unlisted id", with_entry(e), 13)
 }
 
 // Lookup and elements.
@@ -264,23 +248,15 @@ fn entry_lists(t: Tally) -> Tally {
 fn odd_names(t: Tally) -> Tally {
     let image = sample();
     let long = [120u8; 300];
+    let t = t.with(b"lookup of the empty name", ask::lookup(&image, 0, b""), 41);
     let t = t.with(
-        b"A14 lookup of the empty name",
-        ask::lookup(&image, 0, b""),
-        41,
-    );
-    let t = t.with(
-        b"A14 lookup of a name with a zero",
+        b"lookup of a name with a zero",
         ask::lookup(&image, 0, b"probe\x00"),
         41,
     );
-    let t = t.with(
-        b"A14 lookup of 300 bytes",
-        ask::lookup(&image, 0, &long),
-        41,
-    );
+    let t = t.with(b"lookup of 300 bytes", ask::lookup(&image, 0, &long), 41);
     t.with(
-        b"A14 lookup of the empty name in frame 1",
+        b"lookup of the empty name in frame 1",
         ask::lookup(&image, 1, b""),
         40,
     )
@@ -310,13 +286,13 @@ fn elements(t: Tally) -> Tally {
         43,
     );
     let t = t.with(
-        b"B2 element 0 of N 2^64-1, M 0",
+        b"element 0 of N 2^64-1, M 0",
         element_with(18446744073709551615, 0, 1, 0),
         43,
     );
-    let t = t.with(b"B13 element 0 of one double", element_with(1, 1, 10, 0), 0);
+    let t = t.with(b"element 0 of one double", element_with(1, 1, 10, 0), 0);
     t.with(
-        b"B13 element 2^61 of one double",
+        b"element 2^61 of one double",
         element_with(1, 1, 10, 2305843009213693952),
         43,
     )
@@ -335,15 +311,15 @@ fn create_in(len: usize, application: &[u8], slots: u64) -> u64 {
 
 fn short_slices(t: Tally) -> Tally {
     let text = [97u8; 64];
-    let t = t.with(b"A15 create in 0 bytes", create_in(0, b"", 1), 52);
-    let t = t.with(b"A15 create in 255 bytes", create_in(255, b"", 1), 52);
+    let t = t.with(b"create in 0 bytes", create_in(0, b"", 1), 52);
+    let t = t.with(b"create in 255 bytes", create_in(255, b"", 1), 52);
     let t = t.with(
-        b"A15 65537 slots and a text of 64 bytes in 10 bytes",
+        b"65537 slots and a text of 64 bytes in 10 bytes",
         create_in(10, &text, 65537),
         50,
     );
     t.with(
-        b"A15 a text of 64 bytes in 10 bytes",
+        b"a text of 64 bytes in 10 bytes",
         create_in(10, &text, 1),
         51,
     )
@@ -351,16 +327,12 @@ fn short_slices(t: Tally) -> Tally {
 
 fn defaults(t: Tally) -> Tally {
     let image = fresh(0, 1);
-    let t = t.with(b"A15 0 slots and 1 segment, slots", ask::slots(&image), 64);
-    let t = t.with(
-        b"A15 0 slots and 1 segment, segments",
-        ask::segments(&image),
-        1,
-    );
+    let t = t.with(b"0 slots and 1 segment, slots", ask::slots(&image), 64);
+    let t = t.with(b"0 slots and 1 segment, segments", ask::segments(&image), 1);
     let image = fresh(2, 0);
-    let t = t.with(b"A15 2 slots and 0 segments, slots", ask::slots(&image), 2);
+    let t = t.with(b"2 slots and 0 segments, slots", ask::slots(&image), 2);
     t.with(
-        b"A15 2 slots and 0 segments, segments",
+        b"2 slots and 0 segments, segments",
         ask::segments(&image),
         16,
     )
