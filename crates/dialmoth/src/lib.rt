@@ -1,5 +1,5 @@
 // The C interface. A slice is a pointer and its length, an array of fixed length a pointer. Each call answers its number,
-// 0 for none; its values go to out, which a refusal leaves as it was.
+// 0 for none; its values go to out, which a refusal leaves as it was. Only append sets its out at every call.
 mod out;
 
 use gsd_append::append;

@@ -1,3 +1,4 @@
+-- `dialmoth::dialmoth_append` meets its contract: the three numbers of the library's answer, number, done and whole.
 use mathlib.Core.Path.{ap}
 use mathlib.Core.List.{[], _∷_}
 use Rattle.gsd_stores.specs.Append.{appendAnswer}
