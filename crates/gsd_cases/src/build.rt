@@ -1,0 +1,74 @@
+// Images of 4,096 bytes for the cases. What would lie behind their end is not put.
+use gsd_format::Entry;
+
+pub fn put_word(image: &mut [u8; 4096], at: usize, w: u64) {
+    if at <= 4088 {
+        gsd_bytes::put_word(image, at, w);
+    }
+}
+
+pub fn put_text(image: &mut [u8; 4096], at: usize, text: &[u8]) {
+    if 4096 < at {
+        return;
+    }
+    if 4096 - at < text.len() {
+        return;
+    }
+    gsd_bytes::put_text(image, at, text);
+}
+
+pub fn put_entry(image: &mut [u8; 4096], at: usize, e: Entry) {
+    if 4064 < at {
+        return;
+    }
+    put_word(image, at, e.frame);
+    put_word(image, at + 8, e.n);
+    put_word(image, at + 16, e.location);
+    put_word(
+        image,
+        at + 24,
+        e.m as u64 + 4294967296 * (e.id as u64) + 281474976710656 * (e.kind as u64),
+    );
+}
+
+// So many names from a place on, two bytes each and no two equal; the first is "00".
+pub fn put_names(image: &mut [u8; 4096], at: u16, count: u16) {
+    let mut i: u16 = 0;
+    while i < count {
+        let name = [(48 + i / 64 % 64) as u8, (48 + i % 64) as u8, 0];
+        put_text(image, at as usize + 3 * i as usize, &name);
+        i += 1;
+    }
+}
+
+pub fn fresh(slots: u64, segments: u64) -> [u8; 4096] {
+    let mut image = [0u8; 4096];
+    gsd_create::create(&mut image, b"cases", b"none", 0, slots, segments);
+    image
+}
+
+// "probe", a float, N 3, M 1.
+pub fn probe() -> Entry {
+    Entry {
+        frame: 0,
+        n: 3,
+        location: 384,
+        m: 1,
+        id: 0,
+        kind: 9,
+        flags: 0,
+    }
+}
+
+// 2 slots, 1 segment, and one frame with "probe": 20.5, 21.25, 19.75.
+pub fn sample() -> [u8; 4096] {
+    let mut image = fresh(2, 1);
+    put_entry(&mut image, 256, probe());
+    put_text(&mut image, 320, b"probe");
+    put_text(
+        &mut image,
+        384,
+        b"\x00\x00\xa4\x41\x00\x00\xaa\x41\x00\x00\x9e\x41",
+    );
+    image
+}

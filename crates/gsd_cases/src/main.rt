@@ -1,0 +1,356 @@
+// Worked cases, and the edges of reading and creating, each on an image that is built for it: what is asked, what is
+// answered, and at the end how many answers are wrong.
+mod ask;
+mod build;
+mod tally;
+
+use build::fresh;
+use build::probe;
+use build::put_entry;
+use build::put_names;
+use build::put_text;
+use build::put_word;
+use build::sample;
+use gsd_create::create;
+use gsd_format::Entry;
+use tally::Tally;
+
+// The header.
+
+// The opening of the sample with another magic.
+fn with_magic(magic: &[u8]) -> u64 {
+    let mut image = sample();
+    put_text(&mut image, 0, magic);
+    ask::opening(&image)
+}
+
+fn magics(t: Tally) -> Tally {
+    let t = t.with(
+        b"magic from DF on",
+        with_magic(b"\xdf\x65\xdf\x65\xdf\x65\xdf\x65"),
+        0,
+    );
+    t.with(
+        b"magic from 65 on",
+        with_magic(b"\x65\xdf\x65\xdf\x65\xdf\x65\xdf"),
+        3,
+    )
+}
+
+// The opening of an empty image with another index block, or another name block.
+
+fn with_index(location: u64, slots: u64) -> u64 {
+    let mut image = fresh(2, 1);
+    put_word(&mut image, 8, location);
+    put_word(&mut image, 16, slots);
+    ask::opening(&image)
+}
+
+fn with_names(location: u64, segments: u64) -> u64 {
+    let mut image = fresh(2, 1);
+    put_word(&mut image, 24, location);
+    put_word(&mut image, 32, segments);
+    ask::opening(&image)
+}
+
+fn index_blocks(t: Tally) -> Tally {
+    let t = t.with(b"empty index block at 0", with_index(0, 0), 6);
+    let t = t.with(b"empty index block at 255", with_index(255, 0), 6);
+    let t = t.with(b"empty index block at the end", with_index(4096, 0), 0);
+    let t = t.with(b"empty index block behind the end", with_index(4097, 0), 6);
+    let t = t.with(
+        b"empty index block in the name block",
+        with_index(330, 0),
+        0,
+    );
+    t.with(b"2^59 slots", with_index(256, 576460752303423488), 6)
+}
+
+fn name_blocks(t: Tally) -> Tally {
+    let t = t.with(b"empty name block at 0", with_names(0, 0), 7);
+    let t = t.with(b"empty name block at 255", with_names(255, 0), 7);
+    let t = t.with(b"empty name block at the end", with_names(4096, 0), 0);
+    let t = t.with(b"empty name block behind the end", with_names(4097, 0), 7);
+    let t = t.with(
+        b"empty name block in the index block",
+        with_names(260, 0),
+        0,
+    );
+    t.with(b"2^58 segments", with_names(320, 288230376151711744), 7)
+}
+
+// The names.
+
+// So many names in 49 segments, then a text.
+fn named(count: u16, text: &[u8]) -> [u8; 4096] {
+    let mut image = fresh(1, 49);
+    put_names(&mut image, 288, count);
+    put_text(&mut image, 288 + 3 * count as usize, text);
+    image
+}
+
+fn numbers_of_names(t: Tally) -> Tally {
+    let image = named(1024, b"");
+    let t = t.with(b"paper, 1024 names", ask::opening(&image), 0);
+    let t = t.with(b"paper, 1024 names, counted", ask::names(&image), 1024);
+    t.with(b"paper, 1025 names", ask::opening(&named(1025, b"")), 10)
+}
+
+fn name_lists(t: Tally) -> Tally {
+    let rest = [120u8; 61];
+    let t = t.with(
+        b"one not closed behind 1025 names",
+        ask::opening(&named(1025, &rest)),
+        9,
+    );
+    let t = t.with(
+        b"two equal among 1025 names",
+        ask::opening(&named(1024, b"00")),
+        10,
+    );
+    t.with(
+        b"two equal among 1024 names",
+        ask::opening(&named(1023, b"00")),
+        11,
+    )
+}
+
+fn long_names(t: Tally) -> Tally {
+    let name = [110u8; 300];
+    let mut image = fresh(2, 5);
+    let mut e = probe();
+    e.location = 640;
+    put_entry(&mut image, 256, e);
+    put_text(&mut image, 320, &name);
+    let t = t.with(b"a name of 300 bytes", ask::opening(&image), 0);
+    let t = t.with(b"its size", ask::name_size(&image, 0), 300);
+    t.with(b"its lookup", ask::lookup(&image, 0, &name), 0)
+}
+
+// The entries.
+
+// The opening of the sample with another first entry, or with another chunk in it.
+
+fn with_entry(e: Entry) -> u64 {
+    let mut image = sample();
+    put_entry(&mut image, 256, e);
+    ask::opening(&image)
+}
+
+fn with_chunk(location: u64, n: u64, m: u32, kind: u8) -> u64 {
+    let mut e = probe();
+    e.location = location;
+    e.n = n;
+    e.m = m;
+    e.kind = kind;
+    with_entry(e)
+}
+
+fn empty_chunks(t: Tally) -> Tally {
+    let t = t.with(b"empty chunk at the end", with_chunk(4096, 0, 1, 9), 0);
+    let t = t.with(b"empty chunk behind the end", with_chunk(4097, 0, 1, 9), 16);
+    let t = t.with(
+        b"empty chunk in the index block",
+        with_chunk(257, 0, 1, 9),
+        0,
+    );
+    let t = t.with(
+        b"empty chunk in the name block",
+        with_chunk(321, 0, 1, 9),
+        0,
+    );
+    t.with(b"one byte in the name block", with_chunk(321, 1, 1, 1), 17)
+}
+
+fn chunks(t: Tally) -> Tally {
+    let t = t.with(
+        b"paper, location -1",
+        with_chunk(18446744073709551615, 1, 1, 1),
+        12,
+    );
+    let t = t.with(
+        b"N 2^62, M 4",
+        with_chunk(384, 4611686018427387904, 4, 1),
+        16,
+    );
+    let t = t.with(
+        b"N 2^64-1, M 0",
+        with_chunk(384, 18446744073709551615, 0, 1),
+        0,
+    );
+    let t = t.with(
+        b"location -2^63",
+        with_chunk(9223372036854775808, 1, 1, 1),
+        12,
+    );
+    let t = t.with(
+        b"location 2^63-1",
+        with_chunk(9223372036854775807, 1, 1, 1),
+        16,
+    );
+    t.with(b"type 0", with_chunk(384, 3, 1, 0), 13)
+}
+
+// Three slots: an entry, one with location 0 that no test would pass, and one that looks well.
+fn ended() -> [u8; 4096] {
+    let mut image = fresh(3, 1);
+    let mut e = probe();
+    e.location = 416;
+    put_entry(&mut image, 256, e);
+    put_entry(
+        &mut image,
+        288,
+        Entry {
+            frame: 99,
+            n: 1,
+            location: 0,
+            m: 1,
+            id: 65535,
+            kind: 99,
+            flags: 0,
+        },
+    );
+    e.frame = 1;
+    put_entry(&mut image, 320, e);
+    put_text(&mut image, 352, b"probe");
+    image
+}
+
+// The opening of the sample with a chunk too long in entry 0 and a location too low in entry 1.
+fn with_two() -> u64 {
+    let mut image = sample();
+    let mut far = probe();
+    far.n = 4096;
+    put_entry(&mut image, 256, far);
+    let mut low = probe();
+    low.location = 255;
+    put_entry(&mut image, 288, low);
+    ask::opening(&image)
+}
+
+fn entry_lists(t: Tally) -> Tally {
+    let image = ended();
+    let t = t.with(
+        b"a slot with location 0, then an entry",
+        ask::opening(&image),
+        0,
+    );
+    let t = t.with(b"entries before that slot", ask::entries(&image), 1);
+    let t = t.with(b"16 in entry 0 and 12 in entry 1", with_two(), 16);
+    let mut e = probe();
+    e.kind = 11;
+    e.id = 1;
+    t.with(b"unknown type and unlisted id", with_entry(e), 13)
+}
+
+// Lookup and elements.
+
+fn odd_names(t: Tally) -> Tally {
+    let image = sample();
+    let long = [120u8; 300];
+    let t = t.with(b"lookup of the empty name", ask::lookup(&image, 0, b""), 41);
+    let t = t.with(
+        b"lookup of a name with a zero",
+        ask::lookup(&image, 0, b"probe\x00"),
+        41,
+    );
+    let t = t.with(b"lookup of 300 bytes", ask::lookup(&image, 0, &long), 41);
+    t.with(
+        b"lookup of the empty name in frame 1",
+        ask::lookup(&image, 1, b""),
+        40,
+    )
+}
+
+// An element of the sample with another chunk.
+fn element_with(n: u64, m: u32, kind: u8, k: u64) -> u64 {
+    let mut image = sample();
+    let mut e = probe();
+    e.n = n;
+    e.m = m;
+    e.kind = kind;
+    put_entry(&mut image, 256, e);
+    ask::element(&image, b"probe", k)
+}
+
+fn elements(t: Tally) -> Tally {
+    let image = sample();
+    let t = t.with(
+        b"paper, element 2 of probe, its bits",
+        ask::float_bits(&image, b"probe", 2),
+        1100873728,
+    );
+    let t = t.with(
+        b"paper, element 3 of probe",
+        ask::element(&image, b"probe", 3),
+        43,
+    );
+    let t = t.with(
+        b"element 0 of N 2^64-1, M 0",
+        element_with(18446744073709551615, 0, 1, 0),
+        43,
+    );
+    let t = t.with(b"element 0 of one double", element_with(1, 1, 10, 0), 0);
+    t.with(
+        b"element 2^61 of one double",
+        element_with(1, 1, 10, 2305843009213693952),
+        43,
+    )
+}
+
+// Create.
+
+// What it answers for a slice of at most 255 bytes.
+fn create_in(len: usize, application: &[u8], slots: u64) -> u64 {
+    let mut slice = [0u8; 255];
+    if 255 < len {
+        return 0;
+    }
+    create(&mut slice[0..len], application, b"", 0, slots, 1)
+}
+
+fn short_slices(t: Tally) -> Tally {
+    let text = [97u8; 64];
+    let t = t.with(b"create in 0 bytes", create_in(0, b"", 1), 52);
+    let t = t.with(b"create in 255 bytes", create_in(255, b"", 1), 52);
+    let t = t.with(
+        b"65537 slots and a text of 64 bytes in 10 bytes",
+        create_in(10, &text, 65537),
+        50,
+    );
+    t.with(
+        b"a text of 64 bytes in 10 bytes",
+        create_in(10, &text, 1),
+        51,
+    )
+}
+
+fn defaults(t: Tally) -> Tally {
+    let image = fresh(0, 1);
+    let t = t.with(b"0 slots and 1 segment, slots", ask::slots(&image), 64);
+    let t = t.with(b"0 slots and 1 segment, segments", ask::segments(&image), 1);
+    let image = fresh(2, 0);
+    let t = t.with(b"2 slots and 0 segments, slots", ask::slots(&image), 2);
+    t.with(
+        b"2 slots and 0 segments, segments",
+        ask::segments(&image),
+        16,
+    )
+}
+
+fn main() {
+    let t = magics(Tally { cases: 0, wrong: 0 });
+    let t = index_blocks(t);
+    let t = name_blocks(t);
+    let t = numbers_of_names(t);
+    let t = name_lists(t);
+    let t = long_names(t);
+    let t = empty_chunks(t);
+    let t = chunks(t);
+    let t = entry_lists(t);
+    let t = odd_names(t);
+    let t = elements(t);
+    let t = short_slices(t);
+    let t = defaults(t);
+    t.print();
+}
