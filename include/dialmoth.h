@@ -139,6 +139,8 @@ uint64_t dialmoth_create(uint8_t *image, size_t image_length,
  * 8 in a fixed order, and stops after `limit` of them; UINT64_MAX makes all.
  * The frame is there once the last store is made, and not before: after a stop
  * every older frame reads as it did, and the same append may be made again.
+ * A stop is this limit, seen as the call ends: within a call the compiler may
+ * join or reorder stores, so a cut of power inside it is not covered.
  * out: stores done, stores of the whole append. The frame is there exactly when
  * the answer is 0 and they are equal.
  *
