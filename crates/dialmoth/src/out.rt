@@ -12,7 +12,7 @@ ghost use Rattle.gsd_format.specs.declared.Element.{Element};
 ghost use Rattle.gsd_format.specs.Answers.{openingNumber, listedNumber, placeNumber, elementNumber, bits64};
 ghost use Rattle.dialmoth.specs.Out.{openingOut, listedOut, placeOut, elementOut};
 
-pub fn put_counts(answer: Opening, out: &mut [u64; 3]) -> u64
+pub(crate) fn put_counts(answer: Opening, out: &mut [u64; 3]) -> u64
     requires { ⌜ (answer ≡ Opening.Refused 0 → ⊥) ⌝ }
     ensures { λ r. ⌜ r ≡ openingNumber answer ⌝ }
     ensures { λ _. ⌜ now (out .exit) ≡ openingOut answer (now (out .entry)) ⌝ }
@@ -26,7 +26,7 @@ pub fn put_counts(answer: Opening, out: &mut [u64; 3]) -> u64
     }
 }
 
-pub fn put_entry(answer: Listed, out: &mut [u64; 7]) -> u64
+pub(crate) fn put_entry(answer: Listed, out: &mut [u64; 7]) -> u64
     requires { ⌜ (answer ≡ Listed.Refused 0 → ⊥) ⌝ }
     ensures { λ r. ⌜ r ≡ listedNumber answer ⌝ }
     ensures { λ _. ⌜ now (out .exit) ≡ listedOut answer (now (out .entry)) ⌝ }
@@ -48,7 +48,7 @@ pub fn put_entry(answer: Listed, out: &mut [u64; 7]) -> u64
     }
 }
 
-pub fn put_part(answer: Place, out: &mut [u64; 2]) -> u64
+pub(crate) fn put_part(answer: Place, out: &mut [u64; 2]) -> u64
     requires { ⌜ (answer ≡ Place.Refused 0 → ⊥) ⌝ }
     ensures { λ r. ⌜ r ≡ placeNumber answer ⌝ }
     ensures { λ _. ⌜ now (out .exit) ≡ placeOut answer (now (out .entry)) ⌝ }
@@ -72,7 +72,7 @@ fn bits_of(number: i64) -> u64
     number as u64
 }
 
-pub fn put_element(answer: Element, out: &mut [u64; 2]) -> u64
+pub(crate) fn put_element(answer: Element, out: &mut [u64; 2]) -> u64
     requires { ⌜ (answer ≡ Element.Refused 0 → ⊥) ⌝ }
     ensures { λ r. ⌜ r ≡ elementNumber answer ⌝ }
     ensures { λ _. ⌜ now (out .exit) ≡ elementOut answer (now (out .entry)) ⌝ }

@@ -1,6 +1,6 @@
 -- How many stores a plan makes: the words of its runs, and one for each word of the entries.
-use Prim.Native.Nat.{ℕ, zero, suc, _+_, _*_, _-_, _≤_, _<_}
-use mathlib.Core.Path.{_≡_, refl, sym, _∙_, ap}
+use Prim.Native.Nat.{ℕ, zero, suc, _+_, _*_, _≤_, _<_}
+use mathlib.Core.Path.{_≡_, refl, ap}
 use mathlib.Core.List.{List, [], _∷_, _++_}
 use native.Mathlib.Numerals.{add-one}
 use native.Mathlib.Omega.{arith}
@@ -8,7 +8,7 @@ use lib.ListN.{length, getD, take, drop, length-append, take-append-drop}
 use lib.Seq.{take-suc, take-append-le, take-all}
 use Rattle.gsd_append.specs.declared.run.Run.{Run}
 use Rattle.gsd_append.specs.declared.plan.Plan.{Plan}
-use Rattle.gsd_append.specs.Exec.{stepsFrom, steps}
+use Rattle.gsd_append.specs.Exec.{steps}
 use Rattle.gsd_append.specs.Runs.{none, bodyRun, nameRun, entryRun, tab, clears, block, slots, runsOf}
 use Rattle.gsd_append.proofs.Steps.{stepsFrom-length, steps-append}
 use Rattle.gsd_append.proofs.Runs.{tab-length}

@@ -1,6 +1,6 @@
 -- How the plan's arrays are filled, row by row.
 use Prim.Native.Nat.{ℕ, zero, suc, _+_, _*_, _-_, _/_, _%_, _≤_, _<_}
-use mathlib.Core.Path.{_≡_, refl, sym, _∙_, ap}
+use mathlib.Core.Path.{_≡_, refl, _∙_, ap}
 use mathlib.Core.List.{List}
 use native.Mathlib.Numerals.{add-one}
 use native.Mathlib.Omega.{arith}
@@ -9,7 +9,6 @@ use Rattle.gsd_format.specs.Bytes.{le, roundUp}
 use Rattle.gsd_stores.specs.View.{alignment}
 use Rattle.gsd_stores.specs.Sheet.{rowKind}
 use Rattle.gsd_stores.proofs.Sheet.{rowAt}
-use Rattle.gsd_append.specs.declared.fill.BodyPlaces.{BodyPlaces}
 use Rattle.gsd_append.specs.SheetRows.{Filled}
 use Rattle.gsd_append.specs.Filling.{Laid, dataOffset, BodiesPlaced, nameOffset, NamesPlaced, EntriesFilled}
 use Rattle.gsd_append.proofs.SheetRows.{filled-none, filled-more, filled-to}

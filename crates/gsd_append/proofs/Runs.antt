@@ -1,16 +1,15 @@
 -- Laws of a plan's list of runs: which run stands where, how many there are, and what makes each of them good.
 use Prim.Native.Nat.{ℕ, zero, suc, _+_, _*_, _-_, _/_, _%_, _≤_, _<_}
 use mathlib.Core.Path.{_≡_, refl, sym, _∙_, ap}
-use mathlib.Core.List.{List, [], _∷_, _++_, append-assoc}
+use mathlib.Core.List.{List, _++_, append-assoc}
 use native.Mathlib.Nat.{add-zero}
-use native.Mathlib.Decide.{decLt}
 use native.Mathlib.Omega.{arith}
 use lib.ListN.{length, getD, length-append, List·getD-append}
 use lib.Seq.{getD-append-add}
 use Rattle.gsd_append.specs.declared.run.Run.{Run}
 use Rattle.gsd_append.specs.declared.plan.Heads.{Heads}
 use Rattle.gsd_append.specs.declared.plan.Plan.{Plan}
-use Rattle.gsd_append.specs.Exec.{Good, steps}
+use Rattle.gsd_append.specs.Exec.{Good}
 use Rattle.gsd_append.specs.Runs.{none, bodyRun, nameRun, ofFour, entryRun, tab, clears, block, slots, runsOf, headAt, headsFrom, planFrom, half, Ready}
 
 -- Tables

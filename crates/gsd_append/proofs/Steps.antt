@@ -1,18 +1,16 @@
 -- Laws of steps: how many there are, parts of them, what is left at a cursor, and the stores that they make.
-use Prim.Native.Nat.{ℕ, zero, suc, _+_, _*_, _-_, _≤_, _<_}
-use mathlib.Core.Path.{_≡_, refl, sym, _∙_, ap}
+use Prim.Native.Nat.{ℕ, zero, suc, _+_, _-_, _≤_, _<_}
+use mathlib.Core.Path.{_≡_, refl, _∙_, ap}
 use mathlib.Core.List.{List, [], _∷_, _++_, append-assoc}
-use native.Mathlib.Nat.{add-zero, sub-zero, suc-sub-suc, sub-eq-zero-of-le}
+use native.Mathlib.Nat.{add-zero, sub-zero, sub-eq-zero-of-le}
 use native.Mathlib.Numerals.{add-one}
 use native.Mathlib.Omega.{arith}
-use lib.ListN.{length, take, drop, length-append, length-drop}
-use lib.Seq.{take-append-le, drop-append-le, take-add, drop-drop, take-all, take-nil, drop-nil}
-use Rattle.gsd_format.specs.Bytes.{leBytes}
+use lib.ListN.{length, take, drop, length-append}
+use lib.Seq.{take-append-le, drop-append-le}
 use Rattle.gsd_format.proofs.Bytes.{stored-length}
 use Rattle.gsd_stores.specs.Stores.{after}
 use Rattle.gsd_append.specs.declared.run.Run.{Run}
 use Rattle.gsd_append.specs.Exec.{storeOf, applied, Step, stepsFrom, steps, rest, exec, storesOf}
-use Rattle.gsd_append.specs.Turns.{Walked}
 
 -- Words of one run
 

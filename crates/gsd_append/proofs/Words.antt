@@ -1,15 +1,15 @@
 -- Laws of a run's words, kind by kind: where they go, where and in which text they are read.
-use Prim.Native.Nat.{ℕ, zero, suc, _+_, _*_, _-_, _^_, _≤_, _<_, max}
-use mathlib.Core.Path.{_≡_, refl, sym, _∙_, ap}
+use Prim.Native.Nat.{ℕ, suc, _+_, _*_, _-_, _^_, _≤_, _<_, max}
+use mathlib.Core.Path.{_≡_, _∙_, ap}
 use mathlib.Core.List.{List}
 use native.Mathlib.Nat.{pow-suc, pow-le-pow-right}
 use native.Mathlib.Decide.{ℕ-discrete}
 use native.Mathlib.Omega.{arith}
-use lib.ListN.{length, getD, take, drop, length-take, List·getD-eq-default}
+use lib.ListN.{length, getD, take, length-take, List·getD-eq-default}
 use lib.Seq.{getD-take}
-use borrow.Author.Tests.{eq-eqb, ne-eqb}
+use borrow.Author.Tests.{ne-eqb}
 use Rattle.gsd_format.specs.Bytes.{le, part}
-use Rattle.gsd_format.proofs.Bytes.{Same, le-same, part-at, part-length, stored-below, stored-inside, stored-above}
+use Rattle.gsd_format.proofs.Bytes.{le-same, part-at, part-length, stored-below, stored-inside, stored-above}
 use Rattle.gsd_append.specs.declared.run.Run.{Run}
 use Rattle.gsd_append.specs.Exec.{placeOf, over, textOf, sourceOf, wordOf, Good}
 

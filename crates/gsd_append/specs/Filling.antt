@@ -2,7 +2,7 @@
 use Prim.Native.Nat.{ℕ, zero, suc, _+_, _*_, _-_, _/_, _%_, _≤_, _<_}
 use mathlib.Core.Path.{_≡_}
 use mathlib.Core.List.{List}
-use lib.ListN.{getD, length}
+use lib.ListN.{getD}
 use Rattle.gsd_format.specs.Bytes.{le, roundUp}
 use Rattle.gsd_stores.specs.Sheet.{rowKind}
 use Rattle.gsd_stores.specs.View.{alignment}

@@ -1,6 +1,5 @@
 -- The runs of a plan, in the order of the append's steps 1 to 6.
 use Prim.Native.Nat.{ℕ, zero, suc, _+_, _*_, _-_, _/_, _%_, _≤_, _<_}
-use mathlib.Core.Path.{_≡_}
 use mathlib.Core.List.{List, [], _∷_, _++_}
 use lib.ListN.{getD, length}
 use Rattle.gsd_append.specs.declared.run.Run.{Run}

@@ -1,17 +1,15 @@
 -- Where an append's parts go, as numbers: the blocks after the data, and the runs that are there once.
 use Prim.Native.Nat.{ℕ, _+_, _*_, _-_, _/_, min}
-use mathlib.Core.Path.{_≡_}
 use mathlib.Core.Bool.{Bool, cond}
 use lib.Dec.{ltb}
 use Rattle.gsd_format.specs.declared.Layout.{Layout}
-use Rattle.gsd_stores.specs.View.{indexEnd, namelistEnd}
+use Rattle.gsd_stores.specs.View.{namelistEnd}
 use Rattle.gsd_stores.specs.Plan.{grown}
-use Rattle.gsd_append.specs.declared.run.Run.{Run}
 use Rattle.gsd_append.specs.declared.plan.Heads.{Heads}
 use Rattle.gsd_append.specs.declared.sites.Sites.{Sites}
 use Rattle.gsd_append.specs.declared.sites.Block.{Block}
 use Rattle.gsd_append.specs.declared.sites.Clears.{Clears}
-use Rattle.gsd_append.specs.Runs.{number, none}
+use Rattle.gsd_append.specs.Runs.{number}
 use Rattle.gsd_append.specs.Matches.{copied, ifMoved}
 
 -- the places behind the data, which end at `end`, when the names need so many bytes and the entries so many slots

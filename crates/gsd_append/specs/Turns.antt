@@ -1,12 +1,12 @@
 -- A turn makes the next stores of a plan, as many as its limit lets it, from a cursor on: a run and a word of it.
-use Prim.Native.Nat.{ℕ, _≤_, _<_, min}
+use Prim.Native.Nat.{ℕ, _≤_, min}
 use mathlib.Core.Path.{_≡_}
 use mathlib.Core.List.{List}
 use lib.ListN.{getD, length, take, drop}
 use Rattle.gsd_append.specs.declared.plan.Plan.{Plan}
 use Rattle.gsd_append.specs.declared.turn.Turned.{Turned}
 use Rattle.gsd_append.specs.Exec.{Step, rest, exec}
-use Rattle.gsd_append.specs.Runs.{none, runsOf, Ready}
+use Rattle.gsd_append.specs.Runs.{none, runsOf}
 
 -- the steps that are still to be made at a cursor
 abbrev pub ahead : Plan → ℕ → ℕ → List Step

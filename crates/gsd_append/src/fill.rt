@@ -1,5 +1,4 @@
 // The plan's arrays: where data and new names go, and the numbers of the new entries.
-ghost use mathlib.Core.Path.{_≡_};
 ghost use Prim.Native.Nat.{ℕ, _+_, _*_, _/_, _%_, _≤_, _<_};
 ghost use lib.ListN.{length, getD};
 ghost use Rattle.gsd_stores.proofs.Sheet.{rowAt};

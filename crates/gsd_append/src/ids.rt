@@ -45,7 +45,7 @@ fn id_of(
 }
 
 // Each row's name is searched once.
-pub fn find_ids<'a>(
+pub(crate) fn find_ids<'a>(
     image: &[u8],
     starts: &[u32; 1025],
     names: usize,

@@ -2,7 +2,7 @@
 use crate::run::Run;
 ghost use mathlib.Core.Path.{_≡_};
 ghost use Prim.Native.Nat.{_+_, _-_, _*_, _/_, _%_, _≤_, _<_};
-ghost use lib.ListN.{length, getD};
+ghost use lib.ListN.{getD};
 ghost use Rattle.gsd_append.specs.Exec.{Good};
 ghost use Rattle.gsd_append.specs.Runs.{none, body, name, ofFour, entry, headAt, headsFrom, planFrom, runsOf, half};
 
@@ -44,7 +44,7 @@ pub struct Plan {
 }
 
 // The runs that are there once, in one array that can be lent, six numbers to a run.
-pub fn laid(heads: Heads) -> [u64; 66]
+pub(crate) fn laid(heads: Heads) -> [u64; 66]
     ensures { λ r. ⌜ headsFrom r ≡ heads ⌝ }
 {
     [
@@ -209,7 +209,7 @@ fn entry_at<'a>(
 }
 
 // The r-th run of a plan, which is lent by its parts: its arrays are not copied.
-pub fn run_at<'a>(
+pub(crate) fn run_at<'a>(
     rows: usize,
     fresh: usize,
     heads: &'a [u64; 66],

@@ -126,7 +126,7 @@ fn word_at(image: &[u8], sheet: &[u8], run: Run, w: usize, near: bool) -> u64
 }
 
 // The next store: word w of the run. Nothing else writes the image.
-pub fn next_store(image: &mut [u8], sheet: &[u8], run: Run, w: usize, near: bool)
+pub(crate) fn next_store(image: &mut [u8], sheet: &[u8], run: Run, w: usize, near: bool)
     requires { ⌜ Good (length (now image)) (length (now sheet)) run × ((w < run .words) × (near ≡ true → Near run w)) ⌝ }
     ensures { λ _. ⌜ now (image .exit) ≡ stored (now (image .entry)) (placeOf run w) (leBytes 8 (wordOf (now (sheet .entry)) (now (image .entry)) run w)) ⌝ }
 {
@@ -153,7 +153,7 @@ fn near_count(run: Run, e: usize) -> usize
 }
 
 // The n stores of a run from word w on.
-pub fn stores(image: &mut [u8], sheet: &[u8], run: Run, w: usize, n: usize)
+pub(crate) fn stores(image: &mut [u8], sheet: &[u8], run: Run, w: usize, n: usize)
     requires { ⌜ Good (length (now image)) (length (now sheet)) run × (w + n ≤ run .words) ⌝ }
     ensures { λ _. ⌜ now (image .exit) ≡ exec (now (sheet .entry)) (now (image .entry)) (stepsFrom run w n) ⌝ }
 {

@@ -39,21 +39,21 @@ fn refused(number: u64) -> SheetRows
 }
 
 // Row i of the table: N, M, type and name length.
-pub fn row_n(sheet: &[u8], i: usize) -> u64
+pub(crate) fn row_n(sheet: &[u8], i: usize) -> u64
     requires { ⌜ rowAt i + 16 ≤ length (now sheet) ⌝ }
     ensures { λ r. ⌜ r ≡ le 8 (now (sheet .entry)) (rowAt i) ⌝ }
 {
     u64_at(sheet, 4 + 16 * i)
 }
 
-pub fn row_m(sheet: &[u8], i: usize) -> u64
+pub(crate) fn row_m(sheet: &[u8], i: usize) -> u64
     requires { ⌜ rowAt i + 16 ≤ length (now sheet) ⌝ }
     ensures { λ r. ⌜ (r ≡ le 4 (now (sheet .entry)) (rowAt i + 8)) × (r < 4294967296) ⌝ }
 {
     u32_at(sheet, 4 + 16 * i + 8)
 }
 
-pub fn row_kind(sheet: &[u8], i: usize) -> u8
+pub(crate) fn row_kind(sheet: &[u8], i: usize) -> u8
     requires { ⌜ rowAt i + 16 ≤ length (now sheet) ⌝ }
     ensures { λ r. ⌜ r ≡ rowKind (now (sheet .entry)) (rowAt i) ⌝ }
 {
@@ -282,7 +282,7 @@ fn names_number<'a>(
     0
 }
 
-pub fn sheet_rows(sheet: &[u8]) -> SheetRows
+pub(crate) fn sheet_rows(sheet: &[u8]) -> SheetRows
     ensures { λ r. ⌜ Found (now (sheet .entry)) (sheetTest (now (sheet .entry))) r ⌝ }
 {
     let number = table_number(sheet);

@@ -1,8 +1,7 @@
 // Where an append's parts go: the end of use, the places and counts of new blocks, the final position.
 ghost use mathlib.Core.Path.{_≡_};
-ghost use mathlib.Core.Bool.{Bool, true, false, cond};
+ghost use mathlib.Core.Bool.{true, cond};
 ghost use Prim.Native.Nat.{_+_, _*_, _-_, _/_, _≤_, _<_, max, min};
-ghost use lib.Dec.{ltb};
 ghost use Rattle.gsd_format.specs.Bytes.{roundUp};
 ghost use Rattle.gsd_format.specs.Header.{headerSize, greatestLength};
 ghost use Rattle.gsd_stores.specs.View.{alignment, indexEnd, namelistEnd};

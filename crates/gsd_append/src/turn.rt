@@ -4,7 +4,7 @@ use crate::plan::laid;
 use crate::plan::run_at;
 use crate::run::stores;
 ghost use mathlib.Core.Path.{_≡_};
-ghost use Prim.Native.Nat.{_+_, _*_, _≤_, _<_};
+ghost use Prim.Native.Nat.{_+_, _*_, _<_};
 ghost use lib.ListN.{length};
 ghost use Rattle.gsd_append.specs.Exec.{steps};
 ghost use Rattle.gsd_append.specs.Runs.{runsOf, Ready, half};
@@ -18,7 +18,7 @@ pub struct Turned {
 }
 
 // The next stores of a plan from a cursor on, as many as the limit lets be made.
-pub fn turn(
+pub(crate) fn turn(
     image: &mut [u8],
     sheet: &[u8],
     plan: Plan,
@@ -75,7 +75,7 @@ pub fn turn(
 }
 
 // The number of all stores of a plan. Each of an entry's four words is a run of its own.
-pub fn whole(plan: Plan) -> u64
+pub(crate) fn whole(plan: Plan) -> u64
     requires { ⌜ Ready half half plan ⌝ }
     ensures { λ r. ⌜ r ≡ length (steps (runsOf plan)) ⌝ }
 {

@@ -9,9 +9,9 @@ use native.Mathlib.Decide.{decLt}
 use native.Mathlib.Omega.{arith}
 use lib.ListN.{length, getD, set, length-map, length-set}
 use lib.Seq.{set-out, getD-set-same, getD-set-other}
-use lib.Dec.{ltb, eqb}
+use lib.Dec.{ltb, leb, eqb}
 use borrow.Author.Count.{below-more}
-use borrow.Author.Tests.{lt-ltb, le-ltb}
+use borrow.Author.Tests.{lt-ltb, le-ltb, le-leb, ltb-true, leb-true}
 use Rattle.gsd_format.specs.declared.Layout.{Layout}
 use Rattle.gsd_format.specs.declared.Part.{Part}
 use Rattle.gsd_format.specs.Bytes.{same}
@@ -24,7 +24,7 @@ use Rattle.gsd_format.proofs.Ids.{Has, Lacks, index-here, index-on, index-none}
 use Rattle.gsd_format.proofs.Names.{namesAt, flat-none, flat-size, parts-none, parts-end, parts-close, parts-walk, parts-open}
 use Rattle.gsd_bytes.specs.Zeros.{FirstZero}
 use Rattle.gsd_read.specs.declared.names.NameList.{NameList}
-use Rattle.gsd_read.specs.NameLists.{partAt, partsFrom, namesIn, Span, Spans, Past, NamesFound}
+use Rattle.gsd_read.specs.NameLists.{partAt, partsFrom, namesIn, Span, spanned, Spans, idFrom, Past, NamesFound}
 
 -- A name found from its start, by the first zero
 
@@ -247,9 +247,6 @@ module _ (img starts : List ℕ) (count : ℕ) where
   pub passed-all : (b : List ℕ) (a i : ℕ) → count ≤ i → Passed b a i → indexOf b (names a) + a ≡ i
   passed-all b a i h p = let e : indexOf b (names i) ≡ 0 = ap (indexOf b) (names-none i h) ∙ index-none b in omega arith
 
-  pub index-all : (b : List ℕ) (i : ℕ) → indexOf b (names 0) + 0 ≡ i → i ≡ indexOf b (namesIn img starts count)
-  index-all b i e = omega (arith, ap (indexOf b) names-all)
-
   -- The twins among the names from the i-th on: a name that comes again, or those of the names behind it
 
   names-from : (b : List ℕ) (i : ℕ) → i < count → b ≡ bytesOf img (partAt starts i) → names i ≡ b ∷ names (i + 1)
@@ -266,6 +263,79 @@ module _ (img starts : List ℕ) (count : ℕ) where
   pub twins-none : (i : ℕ) → count ≤ i → twins (names i) ≡ false
   unfolding twins
   twins-none i h = ap twins (names-none i h)
+
+-- A name's id among any places
+
+module _ (starts : List ℕ) (i len : ℕ) where
+  pub span-of : spanned starts i len ≡ true → Span starts i len
+  unfolding spanned
+  span-of e = go (ltb i mostNames) refl (ltb (getD starts i 0) (getD starts (i + 1) 0)) refl e
+    where
+      go : (a : Bool) → ltb i mostNames ≡ a → (b : Bool) → ltb (getD starts i 0) (getD starts (i + 1) 0) ≡ b →
+          (a && (b && leb (getD starts (i + 1) 0) len)) ≡ true → Span starts i len
+      go true k true s w = record { kept = ltb-true _ _ k; some = ltb-true _ _ s; within = leb-true _ _ w }
+      go true k false s w = absurd (true≢false (sym w))
+      go false k b s w = absurd (true≢false (sym w))
+
+  pub not-kept : mostNames ≤ i → spanned starts i len ≡ false
+  unfolding spanned
+  not-kept h = rw (le-ltb i mostNames h)
+
+  module _ (next : ℕ) (q : next ≡ getD starts (i + 1) 0) (kept : i < mostNames) where
+    pub no-size : next ≤ getD starts i 0 → spanned starts i len ≡ false
+    unfolding spanned
+    no-size h = rw (lt-ltb i mostNames kept, le-ltb (getD starts i 0) (getD starts (i + 1) 0) (omega arith))
+
+    pub up-to : getD starts i 0 < next → spanned starts i len ≡ leb next len
+    unfolding spanned
+    up-to h = rw (lt-ltb i mostNames kept, lt-ltb (getD starts i 0) (getD starts (i + 1) 0) (omega arith), q)
+
+  pub span-spanned : Span starts i len → spanned starts i len ≡ true
+  unfolding spanned
+  span-spanned s = rw (lt-ltb _ _ (s .kept), lt-ltb _ _ (s .some), le-leb _ _ (s .within))
+
+module _ (img starts b : List ℕ) where
+  module _ (count i : ℕ) where
+    abbrev idOn : ℕ
+    idOn = idFrom img starts b i (count - i)
+
+    pub id-end : i ≤ count → count ≤ i → idOn ≡ i
+    unfolding idFrom
+    id-end l h = ap (idFrom img starts b i) (let e : count - i ≡ 0 = omega arith in e)
+
+    module _ (h : i < count) where
+      one : idOn ≡ idFrom img starts b i (suc (count - (i + 1)))
+      one = ap (idFrom img starts b i) (let e : count - i ≡ suc (count - (i + 1)) = omega arith in e)
+
+      pub id-bad : spanned starts i (length img) ≡ false → idOn ≡ count
+      unfolding idFrom
+      id-bad e = one ∙ rw (e, idFrom) (let q : i + suc (count - (i + 1)) ≡ count = omega arith in q)
+
+      module _ (n : List ℕ) (good : spanned starts i (length img) ≡ true) (q : n ≡ bytesOf img (partAt starts i)) where
+        pub id-here : same b n ≡ true → idOn ≡ i
+        unfolding idFrom
+        id-here e = one ∙ rw (good, ap (same b) (sym q) ∙ e, idFrom)
+
+        pub id-more : same b n ≡ false → idOn ≡ idFrom img starts b (i + 1) (count - (i + 1))
+        unfolding idFrom
+        id-more e = one ∙ rw (good, ap (same b) (sym q) ∙ e, idFrom)
+
+  -- where every place is one of the image, the id in their list
+  id-index : (n i : ℕ) → ((k : ℕ) → k < n → Span starts (i + k) (length img)) →
+      idFrom img starts b i n ≡ indexOf b (map (bytesOf img) (partsFrom starts i n)) + i
+  unfolding idFrom partsFrom indexOf
+  id-index zero i h = sym (zero-add i)
+  id-index (suc n) i h =
+      rw (span-spanned starts i (length img) (rw (add-zero i) at (h 0 (omega arith))), idFrom)
+      (go (same b (bytesOf img (partAt starts i))) _
+      (id-index n (i + 1) (λ k l. rw (let e : i + suc k ≡ i + 1 + k = omega arith in e) at (h (suc k) (omega arith)))))
+    where
+      go : (t : Bool) {r : ℕ} (k : ℕ) → r ≡ k + (i + 1) → (elim t [ true ↦ i | false ↦ r ]) ≡ (elim t [ true ↦ 0 | false ↦ suc k ]) + i
+      go true k e = sym (zero-add i)
+      go false k e = omega arith
+
+  pub id-listed : (count : ℕ) → Spans starts count (length img) → idFrom img starts b 0 count ≡ indexOf b (namesIn img starts count)
+  id-listed count h = id-index count 0 (λ k l. rw (sym (zero-add k)) at (h k l)) ∙ add-zero _
 
 -- What is found, by name and by place
 

@@ -23,9 +23,9 @@ use Rattle.gsd_read.specs.declared.index.Walk.{Walk}
 use Rattle.gsd_read.specs.declared.names.NameList.{NameList}
 use Rattle.gsd_read.specs.declared.survey.Survey.{Survey}
 use Rattle.gsd_read.specs.Index.{Walks}
-use Rattle.gsd_read.specs.NameLists.{partAt, namesIn, Spans, NamesFound}
+use Rattle.gsd_read.specs.NameLists.{partAt, namesIn, Spans, NamesFound, idFrom}
 use Rattle.gsd_read.specs.Surveys.{Laid, Surveyed}
-use Rattle.gsd_read.proofs.NameLists.{found-count, found-names, found-part}
+use Rattle.gsd_read.proofs.NameLists.{id-listed, found-count, found-names, found-part}
 
 -- a refusal says no more than its number
 refused : (img : List ℕ) (r : Survey) → r .number ≡ verdict img → (r .number ≡ 0 → ⊥) → Surveyed img r
@@ -172,9 +172,9 @@ module _ (img : List ℕ) (s : Survey) (told : Surveyed img s) (good : s .number
     pub no-frame : s .frames ≤ frame → lookup img frame name ≡ Listed.Refused 40
     no-frame h = opened-lookup img opens frame name ∙ look-frame (entriesOf img) (namesOf img) frame name (omega (arith, told .frames good))
 
-    module _ (id : ℕ) (sought : id ≡ indexOf name (namesIn img (s .names .starts) (s .names .count))) (there : frame < s .frames) where
+    module _ (id : ℕ) (sought : id ≡ idFrom img (s .names .starts) name 0 (s .names .count)) (there : frame < s .frames) where
       place : indexOf name (namesOf img) ≡ id
-      place = ap (indexOf name) (sym kept-names) ∙ sym sought
+      place = ap (indexOf name) (sym kept-names) ∙ sym (sought ∙ id-listed img (s .names .starts) name (s .names .count) spans)
 
       pub not-listed : s .names .count ≤ id → lookup img frame name ≡ Listed.Refused 41
       not-listed h =

@@ -1,8 +1,11 @@
 -- The name list as code keeps it: the places where names start.
 use Prim.Native.Nat.{ℕ, zero, suc, _+_, _-_, _≤_, _<_}
 use mathlib.Core.Path.{_≡_}
+use mathlib.Core.Bool.{Bool, true, false, _&&_}
 use mathlib.Core.List.{List, [], _∷_, map}
 use lib.ListN.{length, getD}
+use lib.Dec.{ltb, leb}
+use Rattle.gsd_format.specs.Bytes.{same}
 use Rattle.gsd_format.specs.declared.Part.{Part}
 use Rattle.gsd_format.specs.Names.{partsAt, bytesOf, flat}
 use Rattle.gsd_format.proofs.Names.{namesAt}
@@ -27,8 +30,19 @@ pub record Span (starts : List ℕ) (i len : ℕ) : Type 0 where
   pub some : getD starts i 0 < getD starts (i + 1) 0
   pub within : getD starts (i + 1) 0 ≤ len
 
+unfoldable pub spanned : List ℕ → ℕ → ℕ → Bool
+spanned starts i len = ltb i mostNames && (ltb (getD starts i 0) (getD starts (i + 1) 0) && leb (getD starts (i + 1) 0) len)
+
 abbrev pub Spans : List ℕ → ℕ → ℕ → Type 0
 Spans starts count len = (i : ℕ) → i < count → Span starts i len
+
+-- the id of a name among the n from the i-th on, or i + n where it is none of them; a place that is not one of the image ends the list
+unfoldable pub idFrom : List ℕ → List ℕ → List ℕ → ℕ → ℕ → ℕ
+idFrom img starts name i zero = i
+idFrom img starts name i (suc n) = elim (spanned starts i (length img)) [
+  | true ↦ elim (same name (bytesOf img (partAt starts i))) [ true ↦ i | false ↦ idFrom img starts name (i + 1) n ]
+  | false ↦ i + suc n
+]
 
 -- r is behind the name that starts at start, or at start where the list ends
 pub record Past (img : List ℕ) (start stop r : ℕ) : Type 0 where

@@ -16,6 +16,7 @@ pub record Laid (img : List ℕ) (l : Layout) : Type 0 where
   pub header : headerTest img ≡ 0
   pub blocks : blocksTest l ≡ 0
 
+-- all that is found of an image that opens; of a refused one only the number, and the other fields are free
 pub record Surveyed (img : List ℕ) (r : Survey) : Type 0 where
   pub number : r .number ≡ verdict img
   pub layout : r .number ≡ 0 → r .layout ≡ layoutOf img

@@ -21,7 +21,7 @@ use gsd_format::Entry;
 use gsd_format::Listed;
 
 // The number of a two's complement pattern, half being the pattern of the least number.
-pub fn signed_of(bits: u64, half: u64) -> i64
+pub(crate) fn signed_of(bits: u64, half: u64) -> i64
     requires { ⌜ (0 < half) × (half ≤ 9223372036854775808) × (bits < 2 * half) ⌝ }
     ensures { λ r. ⌜ r ≡ cond (ltb bits half) (pos bits) (negsuc (2 * half - 1 - bits)) ⌝ }
 {
@@ -45,7 +45,7 @@ fn nan64(bits: u64) -> bool
 }
 
 // The float of a pattern. A NaN is made by division: its own pattern cannot be asked for.
-pub fn single(bits: u32) -> f32
+pub(crate) fn single(bits: u32) -> f32
     ensures { λ r. ⌜ r ≡ ofBits binary32 bits ⌝ }
 {
     if nan32(bits) {
@@ -54,7 +54,7 @@ pub fn single(bits: u32) -> f32
     f32::from_bits(bits)
 }
 
-pub fn double(bits: u64) -> f64
+pub(crate) fn double(bits: u64) -> f64
     ensures { λ r. ⌜ r ≡ ofBits binary64 bits ⌝ }
 {
     if nan64(bits) {
@@ -80,7 +80,7 @@ fn half_of(kind: u8) -> u64
     0x8000_0000_0000_0000
 }
 
-pub fn element_of(kind: u8, bits: u64) -> Element
+pub(crate) fn element_of(kind: u8, bits: u64) -> Element
     requires { ⌜ (0 < kind) × (kind ≤ 10) × (bits < 256 ^ sizeOf kind) ⌝ }
     ensures { λ r. ⌜ r ≡ elementOf kind bits ⌝ }
 {

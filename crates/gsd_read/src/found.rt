@@ -1,7 +1,7 @@
 // What is found in an image: its counts, the n-th entry and name, the entry of a frame and a name, and its chunk.
+use crate::ids::name_id;
 use crate::index::chunk_bytes;
 use crate::index::entry_at;
-use crate::names::find_name;
 use crate::names::name_part;
 use crate::survey::survey_of;
 use gsd_format::Counts;
@@ -120,7 +120,7 @@ pub fn lookup(image: &[u8], frame: u64, name: &[u8]) -> Listed
         return Listed::Refused(40);
     }
     let count = s.names.count;
-    let id = find_name(image, &s.names.starts, count, name);
+    let id = name_id(image, &s.names.starts, count, name);
     if count <= id {
         return Listed::Refused(41);
     }

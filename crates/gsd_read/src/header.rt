@@ -27,7 +27,7 @@ fn text_open(image: &[u8]) -> bool
 }
 
 // 1 to 5: the slice's length, the magic, the version, application and schema.
-pub fn header_number(image: &[u8]) -> u64
+pub(crate) fn header_number(image: &[u8]) -> u64
     ensures { λ r. ⌜ r ≡ headerTest (now (image .entry)) ⌝ }
 {
     if image.len() < 256 {
@@ -46,7 +46,7 @@ pub fn header_number(image: &[u8]) -> u64
 }
 
 // The header's four numbers, and the slice's length.
-pub fn layout_of(image: &[u8]) -> Layout
+pub(crate) fn layout_of(image: &[u8]) -> Layout
     requires { ⌜ 256 ≤ length (now image) ⌝ }
     ensures { λ r. ⌜ r ≡ layoutOf (now (image .entry)) ⌝ }
 {
@@ -75,7 +75,7 @@ fn outside(len: usize, start: u64, unit: u64, count: u64) -> bool
 }
 
 // 6 to 8: where the blocks lie.
-pub fn blocks_number(l: Layout) -> u64
+pub(crate) fn blocks_number(l: Layout) -> u64
     requires { ⌜ l .len ≤ greatestLength ⌝ }
     ensures { λ r. ⌜ r ≡ blocksTest l ⌝ }
 {

@@ -30,7 +30,7 @@ pub struct Walk {
     pub end: u64,
 }
 
-pub fn entry_at(image: &[u8], at: usize) -> Entry
+pub(crate) fn entry_at(image: &[u8], at: usize) -> Entry
     requires { ⌜ at + 32 ≤ length (now image) ⌝ }
     ensures { λ r. ⌜ r ≡ entryAt (now (image .entry)) at ⌝ }
 {
@@ -75,7 +75,7 @@ pub fn slot(image: &[u8], index: u64, i: u64) -> Entry
 }
 
 // The bytes of a chunk, cut above the longest slice so that no product wraps.
-pub fn chunk_bytes(n: u64, m: u32, kind: u8) -> u64
+pub(crate) fn chunk_bytes(n: u64, m: u32, kind: u8) -> u64
     ensures { λ r. ⌜ Capped (n * m * sizeOf kind) r ⌝ }
 {
     lesser(n, 1073741825) * lesser(m as u64 * size_of(kind), 1073741825)
@@ -150,7 +150,7 @@ fn entry_number(l: Layout, names: u64, least: u64, top: u64, e: Entry, size: u64
 }
 
 // One pass over the listed entries.
-pub fn walk_entries(image: &[u8], l: Layout, names: u64) -> Walk
+pub(crate) fn walk_entries(image: &[u8], l: Layout, names: u64) -> Walk
     requires { ⌜ Blocks l × (l .len ≤ greatestLength) × (length (now image) ≡ l .len) ⌝ }
     ensures { λ r. ⌜ Walks l names (entriesAt (now (image .entry)) (l .index) (l .slots)) r ⌝ }
 {

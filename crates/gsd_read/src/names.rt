@@ -1,4 +1,4 @@
-// The name list: found in one pass as the places where names start, then tested and searched.
+// The name list: found in one pass as the places where names start, then tested.
 ghost use mathlib.Core.Path.{_≡_};
 ghost use mathlib.Core.Bool.{not, _&&_};
 ghost use Prim.Native.Nat.{_+_, _*_, _≤_, _<_};
@@ -6,7 +6,7 @@ ghost use lib.ListN.{length, getD};
 ghost use lib.Dec.{ltb, eqb};
 ghost use Rattle.gsd_format.specs.Bytes.{same};
 ghost use Rattle.gsd_format.specs.Header.{greatestLength};
-ghost use Rattle.gsd_format.specs.Names.{bytesOf, indexOf};
+ghost use Rattle.gsd_format.specs.Names.{bytesOf};
 ghost use Rattle.gsd_format.specs.Opening.{mostNames, twins, namesTest};
 ghost use Rattle.gsd_format.proofs.Names.{namesAt};
 ghost use Rattle.gsd_read.specs.NameLists.{partAt, namesIn, Past, Span, Spans, NamesFound};
@@ -37,7 +37,7 @@ fn past_name(image: &[u8], start: usize, stop: usize) -> usize
 }
 
 // One pass over the block. A longer list is counted to its end too: 9 comes before 10.
-pub fn name_list(image: &[u8], at: usize, n: usize) -> NameList
+pub(crate) fn name_list(image: &[u8], at: usize, n: usize) -> NameList
     requires { ⌜ (at + n ≤ length (now image)) × (length (now image) ≤ greatestLength) ⌝ }
     ensures { λ r. ⌜ NamesFound (now (image .entry)) at n r ⌝ }
 {
@@ -62,14 +62,14 @@ pub fn name_list(image: &[u8], at: usize, n: usize) -> NameList
     }
 }
 
-pub fn place(x: u32) -> usize
+pub(crate) fn place(x: u32) -> usize
     ensures { λ r. ⌜ r ≡ x ⌝ }
 {
     x as usize
 }
 
 // Where the i-th name lies.
-pub fn name_part(starts: &[u32; 1025], i: usize) -> Part
+pub(crate) fn name_part(starts: &[u32; 1025], i: usize) -> Part
     requires { ⌜ (i < mostNames) × (getD (now starts) i 0 < getD (now starts) (i + 1) 0) ⌝ }
     ensures { λ r. ⌜ r ≡ partAt (now (starts .entry)) i ⌝ }
 {
@@ -81,7 +81,7 @@ pub fn name_part(starts: &[u32; 1025], i: usize) -> Part
     }
 }
 
-pub fn name_bytes<'a, 'b>(image: &'a [u8], starts: &'b [u32; 1025], i: usize) -> &'a [u8]
+pub(crate) fn name_bytes<'a, 'b>(image: &'a [u8], starts: &'b [u32; 1025], i: usize) -> &'a [u8]
     requires { ⌜ Span (now starts) i (length (now image)) ⌝ }
     ensures { λ r. ⌜ now r ≡ bytesOf (now (image .entry)) (partAt (now (starts .entry)) i) ⌝ }
 {
@@ -91,7 +91,7 @@ pub fn name_bytes<'a, 'b>(image: &'a [u8], starts: &'b [u32; 1025], i: usize) ->
 }
 
 // Names often have their front in common, so the last byte is looked at first.
-pub fn same_name(a: &[u8], b: &[u8]) -> bool
+pub(crate) fn same_name(a: &[u8], b: &[u8]) -> bool
     ensures { λ r. ⌜ r ≡ same (now (a .entry)) (now (b .entry)) ⌝ }
 {
     let n = a.len();
@@ -107,23 +107,8 @@ pub fn same_name(a: &[u8], b: &[u8]) -> bool
     gsd_bytes::same_part(a, 0, b, 0, n)
 }
 
-// The id of a name, or the number of names where it is not listed.
-pub fn find_name(image: &[u8], starts: &[u32; 1025], count: usize, name: &[u8]) -> usize
-    requires { ⌜ Spans (now starts) count (length (now image)) ⌝ }
-    ensures { λ r. ⌜ r ≡ indexOf (now (name .entry)) (namesIn (now (image .entry)) (now (starts .entry)) count) ⌝ }
-{
-    let mut i = 0;
-    while i < count {
-        if same_name(name, name_bytes(image, starts, i)) {
-            return i;
-        }
-        i += 1;
-    }
-    i
-}
-
 // Are two of the names equal?
-pub fn has_twins(image: &[u8], starts: &[u32; 1025], count: usize) -> bool
+pub(crate) fn has_twins(image: &[u8], starts: &[u32; 1025], count: usize) -> bool
     requires { ⌜ Spans (now starts) count (length (now image)) ⌝ }
     ensures { λ r. ⌜ r ≡ twins (namesIn (now (image .entry)) (now (starts .entry)) count) ⌝ }
 {
@@ -156,7 +141,13 @@ fn goes_on(image: &[u8], end: usize, stop: usize) -> bool
 }
 
 // 9, 10, 11, or 0 for none of them.
-pub fn names_number(image: &[u8], l: Layout, count: usize, end: usize, starts: &[u32; 1025]) -> u64
+pub(crate) fn names_number(
+    image: &[u8],
+    l: Layout,
+    count: usize,
+    end: usize,
+    starts: &[u32; 1025],
+) -> u64
     requires { ⌜ (l .namelist + 64 * l .segments ≤ length (now image))
         × NamesFound (now image) (l .namelist) (64 * l .segments) (record { count = count; end = end; starts = now starts }) ⌝ }
     ensures { λ r. ⌜ r ≡ namesTest (now (image .entry)) l (namesAt (now (image .entry)) (l .namelist) (64 * l .segments)) ⌝ }

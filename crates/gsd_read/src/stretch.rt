@@ -3,7 +3,7 @@ ghost use mathlib.Core.Path.{_≡_};
 ghost use Prim.Native.Nat.{_+_, _^_, _<_, max, min};
 ghost use Rattle.gsd_format.specs.Bytes.{meets};
 
-pub fn greater(a: u64, b: u64) -> u64
+pub(crate) fn greater(a: u64, b: u64) -> u64
     ensures { λ r. ⌜ r ≡ max a b ⌝ }
 {
     if a < b {
@@ -12,7 +12,7 @@ pub fn greater(a: u64, b: u64) -> u64
     a
 }
 
-pub fn lesser(a: u64, b: u64) -> u64
+pub(crate) fn lesser(a: u64, b: u64) -> u64
     ensures { λ r. ⌜ r ≡ min a b ⌝ }
 {
     if a < b {
@@ -22,7 +22,7 @@ pub fn lesser(a: u64, b: u64) -> u64
 }
 
 // Do the n bytes from a and the m bytes from b have one in common?
-pub fn share(a: u64, n: u64, b: u64, m: u64) -> bool
+pub(crate) fn share(a: u64, n: u64, b: u64, m: u64) -> bool
     requires { ⌜ (a + n < 2 ^ 64) × (b + m < 2 ^ 64) ⌝ }
     ensures { λ r. ⌜ r ≡ meets a n b m ⌝ }
 {

@@ -7,7 +7,7 @@ ghost use lib.ListN.{length, take};
 ghost use Rattle.gsd_format.specs.Bytes.{stored};
 ghost use Rattle.gsd_format.specs.Listing as Listing;
 
-pub fn decimal(out: &mut [u8], at: usize, n: u64) -> usize
+pub(crate) fn decimal(out: &mut [u8], at: usize, n: u64) -> usize
     requires { ⌜ at + length (Listing.decimal n) ≤ length (now out) ⌝ }
     ensures { λ r. ⌜ (now (out .exit) ≡ stored (now (out .entry)) at (Listing.decimal n)) × (r ≡ at + length (Listing.decimal n)) ⌝ }
 {
@@ -20,7 +20,7 @@ pub fn decimal(out: &mut [u8], at: usize, n: u64) -> usize
     last + 1
 }
 
-pub fn fields(out: &mut [u8], at: usize, numbers: &[u64]) -> usize
+pub(crate) fn fields(out: &mut [u8], at: usize, numbers: &[u64]) -> usize
     requires { ⌜ at + length (Listing.fields (now numbers)) ≤ length (now out) ⌝ }
     ensures { λ r. ⌜ (now (out .exit) ≡ stored (now (out .entry)) at (Listing.fields (now (numbers .entry))))
         × (r ≡ at + length (Listing.fields (now (numbers .entry)))) ⌝ }
@@ -37,7 +37,7 @@ pub fn fields(out: &mut [u8], at: usize, numbers: &[u64]) -> usize
 }
 
 // A number behind its label.
-pub fn labelled(out: &mut [u8], at: usize, label: &[u8], n: u64) -> usize
+pub(crate) fn labelled(out: &mut [u8], at: usize, label: &[u8], n: u64) -> usize
     requires { ⌜ at + length (now label) + 20 ≤ length (now out) ⌝ }
     ensures { λ r. ⌜ (take r (now (out .exit)) ≡ take at (now (out .entry)) ++ now (label .entry) ++ Listing.decimal n)
         × (r ≤ at + length (now (label .entry)) + 20) ⌝ }

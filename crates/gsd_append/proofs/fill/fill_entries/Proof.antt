@@ -6,12 +6,6 @@ use Rattle.gsd_append.proofs.Filling.{Numbering, numbering-none, number
 use borrow.Author.Needs.{needs}
 use Rattle.gsd_append.proofs.fill.fill_entries.Statement.{statement}
 use Rattle.gsd_append.proofs.fill.fill_entries.Tie as tie
-use Rattle.gsd_append.proofs.fill.fill_entries.Reads as reads
-use Rattle.gsd_append.proofs.fill.fill_entries.Lts as lts
-use Rattle.gsd_append.proofs.sheet.row_kind.Reads as row-kind-reads
-use Rattle.gsd_append.proofs.sheet.row_m.Reads as row-m-reads
-use Rattle.gsd_append.proofs.sheet.row_n.Reads as row-n-reads
-use Rattle.gsd_bytes.proofs.wide.Reads as wide-reads
 
 abbrev Inv-loop : tie.InvT-loop
 Inv-loop sheet order to count n₀ meta₀ location₀ s₀ n meta location s = Numbering sheet order to count n meta location s

@@ -5,8 +5,6 @@ use Rattle.gsd_append.proofs.Filling.{Placing, placing-none, placing-mo
 use borrow.Author.Needs.{needs}
 use Rattle.gsd_append.proofs.fill.place_bodies.Statement.{statement}
 use Rattle.gsd_append.proofs.fill.place_bodies.Tie as tie
-use Rattle.gsd_append.proofs.fill.place_bodies.Reads as reads
-use Rattle.gsd_append.proofs.fill.place_bodies.Lts as lts
 
 abbrev Inv-loop : tie.InvT-loop
 Inv-loop names bodies count start to₀ until₀ at₀ i₀ to until at i = Placing names bodies count start to until at i

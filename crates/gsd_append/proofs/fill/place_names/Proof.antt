@@ -1,12 +1,10 @@
-use Prim.Native.Nat.{_+_, _-_}
+use Prim.Native.Nat.{_-_}
 use mathlib.Core.Path.{refl}
 use native.Mathlib.Omega.{arith}
 use Rattle.gsd_append.proofs.Filling.{Naming, naming-none, naming-more, naming-all, name-small}
 use borrow.Author.Needs.{needs}
 use Rattle.gsd_append.proofs.fill.place_names.Statement.{statement}
 use Rattle.gsd_append.proofs.fill.place_names.Tie as tie
-use Rattle.gsd_append.proofs.fill.place_names.Reads as reads
-use Rattle.gsd_append.proofs.fill.place_names.Lts as lts
 
 abbrev Inv-loop : tie.InvT-loop
 Inv-loop names bodies rows fresh first at₀ from₀ until₀ next₀ j₀ at from until next j = Naming names bodies rows fresh first at from until next j

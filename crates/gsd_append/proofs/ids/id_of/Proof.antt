@@ -1,5 +1,7 @@
 -- `gsd_append::ids::id_of` meets its contract.
+use mathlib.Core.Path.{_∙_}
 use borrow.Author.Needs.{needs}
+use Rattle.gsd_read.proofs.NameLists.{id-listed}
 use Rattle.gsd_append.proofs.ids.id_of.Statement.{statement}
 use Rattle.gsd_append.proofs.ids.id_of.Tie as tie
 
@@ -16,7 +18,7 @@ name-id-requires : tie.Need-name-id-requires
 name-id-requires c κs = search needs
 
 returns : tie.Need-returns
-returns c = c .name-id .ensures (c .before .before .before .before .pre .0)
+returns c = c .name-id .ensures ∙ id-listed _ _ _ _ (c .before .before .before .before .pre .0)
 
 pub id-of-spec : {M : Type 1} → statement M
 id-of-spec =

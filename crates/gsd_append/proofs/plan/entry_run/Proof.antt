@@ -1,10 +1,6 @@
-use mathlib.Core.Path.{_≡_, ap}
 use borrow.Author.Needs.{needs}
 use Rattle.gsd_append.proofs.plan.entry_run.Statement.{statement}
 use Rattle.gsd_append.proofs.plan.entry_run.Tie as tie
-use Rattle.gsd_append.proofs.plan.entry_run.Reads as reads
-use Rattle.gsd_append.proofs.plan.entry_run.Lts as lts
-use Rattle.gsd_append.proofs.plan.of_four.Reads as of-four-reads
 
 -- src/plan.rt:130:17
 of-four-requires : tie.Need-of-four-requires

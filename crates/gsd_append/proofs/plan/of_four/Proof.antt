@@ -3,8 +3,6 @@ use mathlib.Core.Path.{_≡_, ap}
 use Rattle.gsd_append.specs.Runs.{ofFour}
 use Rattle.gsd_append.proofs.plan.of_four.Statement.{statement}
 use Rattle.gsd_append.proofs.plan.of_four.Tie as tie
-use Rattle.gsd_append.proofs.plan.of_four.Reads as reads
-use Rattle.gsd_append.proofs.plan.of_four.Lts as lts
 
 -- src/plan.rt:113:1
 returns : tie.Need-returns

@@ -4,12 +4,6 @@ use Rattle.gsd_append.proofs.Runs.{clears-at, block-at, slots-at, at-cl
 use borrow.Author.Needs.{needs}
 use Rattle.gsd_append.proofs.plan.run_at.Statement.{statement}
 use Rattle.gsd_append.proofs.plan.run_at.Tie as tie
-use Rattle.gsd_append.proofs.plan.run_at.Reads as reads
-use Rattle.gsd_append.proofs.plan.run_at.Lts as lts
-use Rattle.gsd_append.proofs.plan.body_run.Reads as body-run-reads
-use Rattle.gsd_append.proofs.plan.entry_at.Reads as entry-at-reads
-use Rattle.gsd_append.proofs.plan.head_at.Reads as head-at-reads
-use Rattle.gsd_append.proofs.plan.name_run.Reads as name-run-reads
 
 -- src/plan.rt:179:9
 head-at-requires : tie.Need-head-at-requires

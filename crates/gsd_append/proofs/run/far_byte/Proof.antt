@@ -5,10 +5,6 @@ use lib.ListN.{getD}
 use Rattle.gsd_append.proofs.Words.{text-image, text-sheet, text-name}
 use Rattle.gsd_append.proofs.run.far_byte.Statement.{statement}
 use Rattle.gsd_append.proofs.run.far_byte.Tie as tie
-use Rattle.gsd_append.proofs.run.far_byte.Reads as reads
-use Rattle.gsd_append.proofs.run.far_byte.Lts as lts
-use Rattle.gsd_append.proofs.run.cut_byte.Reads as cut-byte-reads
-use Rattle.gsd_append.proofs.run.over_byte.Reads as over-byte-reads
 
 -- src/run.rt:74:9
 cut-byte-requires : tie.Need-cut-byte-requires

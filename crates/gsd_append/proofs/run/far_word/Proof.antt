@@ -1,5 +1,5 @@
 use borrow.Author.Needs.{needs}
-use Prim.Native.Nat.{_+_, _*_, _-_, _^_, _≤_, _<_}
+use Prim.Native.Nat.{_+_, _-_, _^_, _≤_, _<_}
 use mathlib.Core.Path.{_≡_, refl, _∙_, ap}
 use native.Mathlib.Nat.{add-zero}
 use native.Mathlib.Omega.{arith}
@@ -8,10 +8,6 @@ use Rattle.gsd_append.specs.Exec.{textOf}
 use Rattle.gsd_append.proofs.Words.{from-within, source-within, le-before, bytes-before, bytes-fit}
 use Rattle.gsd_append.proofs.run.far_word.Statement.{statement}
 use Rattle.gsd_append.proofs.run.far_word.Tie as tie
-use Rattle.gsd_append.proofs.run.far_word.Reads as reads
-use Rattle.gsd_append.proofs.run.far_word.Lts as lts
-use Rattle.gsd_append.proofs.run.far_byte.Reads as far-byte-reads
-use Rattle.gsd_append.proofs.run.source.Reads as source-reads
 
 abbrev Inv-loop : tie.InvT-loop
 Inv-loop image sheet run w at v₀ k₀ v k = (k ≤ 8) × ((v ≡ le (8 - k) (textOf sheet image run) (at + k)) × (v < 256 ^ (8 - k)))

@@ -3,9 +3,6 @@ use native.Mathlib.Omega.{arith}
 use Rattle.gsd_append.proofs.Words.{text-image, text-sheet, word-number, word-whole}
 use Rattle.gsd_append.proofs.run.near_word.Statement.{statement}
 use Rattle.gsd_append.proofs.run.near_word.Tie as tie
-use Rattle.gsd_append.proofs.run.near_word.Reads as reads
-use Rattle.gsd_append.proofs.run.near_word.Lts as lts
-use Rattle.gsd_bytes.proofs.u64_at.Reads as u64-at-reads
 
 -- src/run.rt:103:9
 returns : tie.Need-returns

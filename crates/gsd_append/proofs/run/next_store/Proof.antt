@@ -3,11 +3,6 @@ use Rattle.gsd_append.proofs.Words.{place-within}
 use borrow.Author.Needs.{needs}
 use Rattle.gsd_append.proofs.run.next_store.Statement.{statement}
 use Rattle.gsd_append.proofs.run.next_store.Tie as tie
-use Rattle.gsd_append.proofs.run.next_store.Reads as reads
-use Rattle.gsd_append.proofs.run.next_store.Lts as lts
-use Rattle.gsd_append.proofs.run.place.Reads as place-reads
-use Rattle.gsd_append.proofs.run.word_at.Reads as word-at-reads
-use Rattle.gsd_bytes.proofs.put_word.Reads as put-word-reads
 
 -- src/run.rt:131:9
 word-at-requires : tie.Need-word-at-requires

@@ -3,9 +3,6 @@ use Rattle.gsd_append.proofs.Words.{over-below, over-inside, over-above
 use borrow.Author.Needs.{needs}
 use Rattle.gsd_append.proofs.run.over_byte.Statement.{statement}
 use Rattle.gsd_append.proofs.run.over_byte.Tie as tie
-use Rattle.gsd_append.proofs.run.over_byte.Reads as reads
-use Rattle.gsd_append.proofs.run.over_byte.Lts as lts
-use Rattle.gsd_bytes.proofs.wide.Reads as wide-reads
 
 -- src/run.rt:59:21
 shared-slice-read-wide : tie.Need-shared-slice-read-wide

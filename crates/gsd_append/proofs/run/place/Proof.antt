@@ -3,8 +3,6 @@ use Rattle.gsd_append.proofs.Words.{place-name, place-other}
 use borrow.Author.Needs.{needs}
 use Rattle.gsd_append.proofs.run.place.Statement.{statement}
 use Rattle.gsd_append.proofs.run.place.Tie as tie
-use Rattle.gsd_append.proofs.run.place.Reads as reads
-use Rattle.gsd_append.proofs.run.place.Lts as lts
 
 -- src/run.rt:27:30
 sub-result : tie.Need-sub-result

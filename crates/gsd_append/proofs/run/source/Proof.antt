@@ -3,9 +3,6 @@ use Rattle.gsd_append.proofs.Words.{source-name, source-other}
 use borrow.Author.Needs.{needs}
 use Rattle.gsd_append.proofs.run.source.Statement.{statement}
 use Rattle.gsd_append.proofs.run.source.Tie as tie
-use Rattle.gsd_append.proofs.run.source.Reads as reads
-use Rattle.gsd_append.proofs.run.source.Lts as lts
-use Rattle.gsd_append.proofs.run.place.Reads as place-reads
 
 -- src/run.rt:37:9
 place-requires : tie.Need-place-requires

@@ -1,5 +1,5 @@
 use borrow.Author.Needs.{needs}
-use Prim.Native.Nat.{_+_, _-_, _≤_, _<_}
+use Prim.Native.Nat.{_-_, _≤_}
 use mathlib.Core.Path.{_≡_, refl, sym, _∙_, ap}
 use mathlib.Core.Bool.{true≢false}
 use native.Mathlib.Nat.{add-sub-cancel-left}
@@ -9,10 +9,6 @@ use Rattle.gsd_append.specs.Exec.{stepsFrom, exec}
 use Rattle.gsd_append.proofs.Steps.{exec-next, exec-done}
 use Rattle.gsd_append.proofs.run.stores.Statement.{statement}
 use Rattle.gsd_append.proofs.run.stores.Tie as tie
-use Rattle.gsd_append.proofs.run.stores.Reads as reads
-use Rattle.gsd_append.proofs.run.stores.Lts as lts
-use Rattle.gsd_append.proofs.run.near_count.Reads as near-count-reads
-use Rattle.gsd_append.proofs.run.next_store.Reads as next-store-reads
 
 abbrev Inv-loop : tie.InvT-loop
 Inv-loop image₀ sheet run w n e f i₀ image i = (i ≤ e) × ((length image ≡ length image₀) × (exec sheet image (stepsFrom run i (e - i)) ≡ exec sheet image₀ (stepsFrom run w n)))

@@ -3,10 +3,6 @@ use Rattle.gsd_append.proofs.Words.{word-number, word-read}
 use borrow.Author.Needs.{needs}
 use Rattle.gsd_append.proofs.run.word_at.Statement.{statement}
 use Rattle.gsd_append.proofs.run.word_at.Tie as tie
-use Rattle.gsd_append.proofs.run.word_at.Reads as reads
-use Rattle.gsd_append.proofs.run.word_at.Lts as lts
-use Rattle.gsd_append.proofs.run.far_word.Reads as far-word-reads
-use Rattle.gsd_append.proofs.run.near_word.Reads as near-word-reads
 
 -- src/run.rt:118:9
 near-word-requires : tie.Need-near-word-requires

@@ -2,8 +2,6 @@ use native.Mathlib.Omega.{arith}
 use borrow.Author.Needs.{needs}
 use Rattle.gsd_append.proofs.sites.behind.Statement.{statement}
 use Rattle.gsd_append.proofs.sites.behind.Tie as tie
-use Rattle.gsd_append.proofs.sites.behind.Reads as reads
-use Rattle.gsd_append.proofs.sites.behind.Lts as lts
 
 add-result : tie.Need-add-result
 add-result c = search needs

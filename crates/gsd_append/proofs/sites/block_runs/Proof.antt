@@ -2,10 +2,6 @@ use borrow.Author.Tests.{not-true, not-false}
 use borrow.Author.Needs.{needs}
 use Rattle.gsd_append.proofs.sites.block_runs.Statement.{statement}
 use Rattle.gsd_append.proofs.sites.block_runs.Tie as tie
-use Rattle.gsd_append.proofs.sites.block_runs.Reads as reads
-use Rattle.gsd_append.proofs.sites.block_runs.Lts as lts
-use Rattle.gsd_append.proofs.sites.copy_run.Reads as copy-run-reads
-use Rattle.gsd_append.proofs.sites.number_run.Reads as number-run-reads
 
 number-run-requires : tie.Need-number-run-requires
 number-run-requires c κs = search needs

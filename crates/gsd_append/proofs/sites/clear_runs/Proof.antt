@@ -5,12 +5,6 @@ use Rattle.gsd_append.specs.Matches.{copied}
 use borrow.Author.Needs.{needs}
 use Rattle.gsd_append.proofs.sites.clear_runs.Statement.{statement}
 use Rattle.gsd_append.proofs.sites.clear_runs.Tie as tie
-use Rattle.gsd_append.proofs.sites.clear_runs.Reads as reads
-use Rattle.gsd_append.proofs.sites.clear_runs.Lts as lts
-use Rattle.gsd_append.proofs.sites.at_most_one.Reads as at-most-one-reads
-use Rattle.gsd_append.proofs.sites.copy_run.Reads as copy-run-reads
-use Rattle.gsd_append.proofs.sites.less_one.Reads as less-one-reads
-use Rattle.gsd_append.proofs.sites.number_run.Reads as number-run-reads
 
 mul-first : tie.Need-mul-first
 mul-first c = search needs

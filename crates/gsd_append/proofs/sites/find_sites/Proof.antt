@@ -6,10 +6,6 @@ use Rattle.gsd_stores.specs.Plan.{grown}
 use borrow.Author.Needs.{needs}
 use Rattle.gsd_append.proofs.sites.find_sites.Statement.{statement}
 use Rattle.gsd_append.proofs.sites.find_sites.Tie as tie
-use Rattle.gsd_append.proofs.sites.find_sites.Reads as reads
-use Rattle.gsd_append.proofs.sites.find_sites.Lts as lts
-use Rattle.gsd_append.proofs.sites.behind.Reads as behind-reads
-use Rattle.gsd_append.proofs.sites.grown_count.Reads as grown-count-reads
 
 add-grown-count : tie.Need-add-grown-count
 add-grown-count c = search needs

@@ -7,9 +7,6 @@ use Rattle.gsd_append.proofs.Growing.{doubled-step}
 use borrow.Author.Needs.{needs}
 use Rattle.gsd_append.proofs.sites.grown_count.Statement.{statement}
 use Rattle.gsd_append.proofs.sites.grown_count.Tie as tie
-use Rattle.gsd_append.proofs.sites.grown_count.Reads as reads
-use Rattle.gsd_append.proofs.sites.grown_count.Lts as lts
-use Rattle.gsd_append.proofs.sites.greater.Reads as greater-reads
 
 abbrev Inv-loop : tie.InvT-loop
 Inv-loop need old count₀ count = (1 ≤ count) × (count ≤ max count₀ (2 * need)) × (doubled need need count ≡ doubled need need count₀)

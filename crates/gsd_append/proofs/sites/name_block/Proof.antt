@@ -2,9 +2,6 @@ use native.Mathlib.Omega.{arith}
 use borrow.Author.Needs.{needs}
 use Rattle.gsd_append.proofs.sites.name_block.Statement.{statement}
 use Rattle.gsd_append.proofs.sites.name_block.Tie as tie
-use Rattle.gsd_append.proofs.sites.name_block.Reads as reads
-use Rattle.gsd_append.proofs.sites.name_block.Lts as lts
-use Rattle.gsd_append.proofs.sites.block_runs.Reads as block-runs-reads
 
 sub-listed : tie.Need-sub-listed
 sub-listed c = search needs

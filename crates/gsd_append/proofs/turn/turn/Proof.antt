@@ -6,11 +6,6 @@ use Rattle.gsd_append.proofs.Runs.{runs-inside, runs-over, lent-run, le
 use Rattle.gsd_append.proofs.Turns.{Turning, turning-none, run-word, run-good, run-more, run-stop, turn-end}
 use Rattle.gsd_append.proofs.turn.turn.Statement.{statement}
 use Rattle.gsd_append.proofs.turn.turn.Tie as tie
-use Rattle.gsd_append.proofs.turn.turn.Reads as reads
-use Rattle.gsd_append.proofs.turn.turn.Lts as lts
-use Rattle.gsd_append.proofs.plan.laid.Reads as laid-reads
-use Rattle.gsd_append.proofs.plan.run_at.Reads as run-at-reads
-use Rattle.gsd_append.proofs.run.stores.Reads as stores-reads
 
 abbrev Inv-loop : tie.InvT-loop
 Inv-loop image₀ sheet run word limit plan count heads r₀ w₀ left₀ image r w left = Turning sheet image₀ plan run word limit image r w left

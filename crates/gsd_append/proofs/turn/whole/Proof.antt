@@ -1,15 +1,11 @@
 use borrow.Author.Needs.{needs}
-use Prim.Native.Nat.{_+_, _-_, _≤_, _<_}
+use Prim.Native.Nat.{_+_, _-_, _≤_}
 use mathlib.Core.Path.{_≡_, sym, _∙_, ap}
 use native.Mathlib.Omega.{arith}
 use Rattle.gsd_append.proofs.Runs.{runs-inside, lent-run, lent-good}
 use Rattle.gsd_append.proofs.Count.{counted, counted-none, counted-more, counted-within, counted-all}
 use Rattle.gsd_append.proofs.turn.whole.Statement.{statement}
 use Rattle.gsd_append.proofs.turn.whole.Tie as tie
-use Rattle.gsd_append.proofs.turn.whole.Reads as reads
-use Rattle.gsd_append.proofs.turn.whole.Lts as lts
-use Rattle.gsd_append.proofs.plan.laid.Reads as laid-reads
-use Rattle.gsd_append.proofs.plan.run_at.Reads as run-at-reads
 
 abbrev Inv-loop : tie.InvT-loop
 Inv-loop plan count heads sum₀ r₀ sum r = (r ≤ count) × (sum ≡ counted plan r)

@@ -3,7 +3,7 @@ use mathlib.Core.Path.{sym, _∙_}
 use borrow.Author.Needs.{needs}
 use Rattle.gsd_format.specs.declared.Listed.{Listed}
 use Rattle.gsd_format.proofs.Lookup.{refused-lookup}
-use Rattle.gsd_read.proofs.Surveys.{passed-on, opens, spans, index-there, no-frame, not-listed, look-on}
+use Rattle.gsd_read.proofs.Surveys.{passed-on, opens, index-there, no-frame, not-listed, look-on}
 use Rattle.gsd_read.proofs.found.lookup.Statement.{statement}
 use Rattle.gsd_read.proofs.found.lookup.Tie as tie
 
@@ -16,14 +16,14 @@ returns c = passed-on _ Listed.Refused _ (λ k r. refused-lookup _ k r _ _) _ (c
 returns-2 : tie.Need-returns-2
 returns-2 c = sym (no-frame _ _ (c .before .before .survey-of .ensures) (c .before .if1 .left) _ _ (c .if2 .taken))
 
-find-name-requires : tie.Need-find-name-requires
-find-name-requires c κs = spans _ _ (c .before .before .before .before .survey-of .ensures) (c .before .before .before .if1 .left)
+name-id-requires : tie.Need-name-id-requires
+name-id-requires c κs = search needs
 
 returns-3 : tie.Need-returns-3
 returns-3 c =
     let there = c .before .before .before .before in
     let good = there .before in
-    sym (not-listed _ _ (good .before .survey-of .ensures) (good .if1 .left) _ _ _ (c .before .find-name .ensures) (there .if2 .left) (c .if3 .taken))
+    sym (not-listed _ _ (good .before .survey-of .ensures) (good .if1 .left) _ _ _ (c .before .name-id .ensures) (there .if2 .left) (c .if3 .taken))
 
 find-entry-requires : tie.Need-find-entry-requires
 find-entry-requires c κs =
@@ -37,7 +37,7 @@ returns-4 c =
     let there = named .before .before .before in
     let good = there .before in
     let told = good .before .survey-of .ensures in
-    c .find-entry .ensures ∙ sym (look-on _ _ told (good .if1 .left) _ _ _ (named .find-name .ensures) (there .if2 .left) (c .before .if3 .left))
+    c .find-entry .ensures ∙ sym (look-on _ _ told (good .if1 .left) _ _ _ (named .name-id .ensures) (there .if2 .left) (c .before .if3 .left))
 
 pub lookup-spec : {M : Type 1} → statement M
 lookup-spec =
@@ -46,7 +46,7 @@ lookup-spec =
     survey-of-requires
     returns
     returns-2
-    find-name-requires
+    name-id-requires
     returns-3
     find-entry-requires
     returns-4)

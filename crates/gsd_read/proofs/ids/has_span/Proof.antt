@@ -1,13 +1,13 @@
 -- `gsd_read::ids::has_span` meets its contract.
 use mathlib.Core.Path.{sym}
-use mathlib.Core.Bool.{true≢false}
 use native.Mathlib.Omega.{arith}
 use borrow.Author.Needs.{needs}
+use Rattle.gsd_read.proofs.NameLists.{not-kept, no-size, up-to}
 use Rattle.gsd_read.proofs.ids.has_span.Statement.{statement}
 use Rattle.gsd_read.proofs.ids.has_span.Tie as tie
 
 returns : tie.Need-returns
-returns c = (λ e. absurd (true≢false (sym e)), λ e s. omega (arith, s .kept))
+returns c = sym (not-kept _ _ _ (c .if1 .taken))
 
 add-place : tie.Need-add-place
 add-place c = search needs
@@ -31,13 +31,10 @@ place-requires-2 : tie.Need-place-requires-2
 place-requires-2 c κs = search needs
 
 returns-2 : tie.Need-returns-2
-returns-2 c = (λ e. absurd (true≢false (sym e)), λ e s. omega (arith, s .some))
+returns-2 c = sym (no-size _ _ _ _ (c .before .before .before .place .ensures) (c .before .before .before .before .before .if1 .left) (omega (arith, c .if2 .taken)))
 
 returns-3 : tie.Need-returns-3
-returns-3 c = (λ e. absurd (true≢false (sym e)), λ e s. omega (arith, s .within))
-
-returns-4 : tie.Need-returns-4
-returns-4 c = (λ e. record { kept = omega arith; some = omega arith; within = omega arith }, λ e. absurd (true≢false e))
+returns-3 c = sym (up-to _ _ _ _ (c .before .before .before .place .ensures) (c .before .before .before .before .before .if1 .left) (omega (arith, c .if2 .left)))
 
 pub has-span-spec : {M : Type 1} → statement M
 has-span-spec =
@@ -52,5 +49,4 @@ has-span-spec =
     element-copy-out-place-2
     place-requires-2
     returns-2
-    returns-3
-    returns-4)
+    returns-3)
