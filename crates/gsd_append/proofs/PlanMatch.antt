@@ -440,7 +440,7 @@ fresh-small ns sheet names bodies ids h f = omega (arith, f .fresh, new-few (new
 
 -- What the survey of an image that opens tells
 
-module _ (x : List ℕ) (s : Survey) (told : Surveyed x s) (good : s .number ≡ 0) where
+module _ (x starts : List ℕ) (s : Survey) (told : Surveyed x starts s) (good : s .number ≡ 0) where
   opens : verdict x ≡ 0
   opens = sym (told .number) ∙ good
 
@@ -461,11 +461,11 @@ module _ (x : List ℕ) (s : Survey) (told : Surveyed x s) (good : s .number ≡
 
   pub listed-many : s .names .count ≡ length (viewOf x .names)
   unfolding viewOf
-  listed-many = survey-many x s told good
+  listed-many = survey-many x starts s told good
 
-  pub listed-are : namesIn x (s .names .starts) (s .names .count) ≡ viewOf x .names
+  pub listed-are : namesIn x starts (s .names .count) ≡ viewOf x .names
   unfolding viewOf
-  listed-are = kept-names x s told good
+  listed-are = kept-names x starts s told good
 
 module _ (x sheet : List ℕ) where
   -- 28, then 29
@@ -492,33 +492,33 @@ module _ (x sheet : List ℕ) where
       let t : appendTest x sheet ≡ verdict x = stays (verdict x) _ k in
       record { number = g ∙ e ∙ sym t; plan = λ z. absurd (k (sym t ∙ z)) }
 
-  module _ (s : Survey) (told : Surveyed x s) (good : s .number ≡ 0) where
+  module _ (starts : List ℕ) (s : Survey) (told : Surveyed x starts s) (good : s .number ≡ 0) where
     -- 21
     pub odd-index : (s .layout .index % 8 ≡ 0 → ⊥) → appendTest x sheet ≡ 21
     unfolding appendTest
     odd-index f =
-        first-of (verdict x) _ (opens x s told good)
-        ∙ decides _ 20 _ (left-holds (not (eqb (viewOf x .layout .index % 8) 0)) _ (rw (ne-eqb (viewOf x .layout .index % 8) 0 (λ e. f (ap (λ l. l .index % 8) (layout-is x s told good) ∙ e)))))
+        first-of (verdict x) _ (opens x starts s told good)
+        ∙ decides _ 20 _ (left-holds (not (eqb (viewOf x .layout .index % 8) 0)) _ (rw (ne-eqb (viewOf x .layout .index % 8) 0 (λ e. f (ap (λ l. l .index % 8) (layout-is x starts s told good) ∙ e)))))
 
     module _ (even : s .layout .index % 8 ≡ 0) where
       index-even : not (eqb (viewOf x .layout .index % 8) 0) ≡ false
-      index-even = not-of (eqb (viewOf x .layout .index % 8) 0) (eq-eqb _ _ (sym (ap (λ l. l .index % 8) (layout-is x s told good)) ∙ even))
+      index-even = not-of (eqb (viewOf x .layout .index % 8) 0) (eq-eqb _ _ (sym (ap (λ l. l .index % 8) (layout-is x starts s told good)) ∙ even))
 
       pub odd-names : (s .layout .namelist % 8 ≡ 0 → ⊥) → appendTest x sheet ≡ 21
       unfolding appendTest
       odd-names f =
-          first-of (verdict x) _ (opens x s told good)
+          first-of (verdict x) _ (opens x starts s told good)
           ∙ decides _ 20 _ (right-decides (not (eqb (viewOf x .layout .index % 8) 0)) _ index-even
-          ∙ rw (ne-eqb (viewOf x .layout .namelist % 8) 0 (λ e. f (ap (λ l. l .namelist % 8) (layout-is x s told good) ∙ e))))
+          ∙ rw (ne-eqb (viewOf x .layout .namelist % 8) 0 (λ e. f (ap (λ l. l .namelist % 8) (layout-is x starts s told good) ∙ e))))
 
       module _ (even′ : s .layout .namelist % 8 ≡ 0) where
         names-even : not (eqb (viewOf x .layout .namelist % 8) 0) ≡ false
-        names-even = not-of (eqb (viewOf x .layout .namelist % 8) 0) (eq-eqb _ _ (sym (ap (λ l. l .namelist % 8) (layout-is x s told good)) ∙ even′))
+        names-even = not-of (eqb (viewOf x .layout .namelist % 8) 0) (eq-eqb _ _ (sym (ap (λ l. l .namelist % 8) (layout-is x starts s told good)) ∙ even′))
 
         sheet-next : appendTest x sheet ≡ sheetTest sheet ▹ planTest x sheet
         unfolding appendTest
         sheet-next =
-            first-of (verdict x) _ (opens x s told good)
+            first-of (verdict x) _ (opens x starts s told good)
             ∙ goes-on _ 21 _ (neither-of (not (eqb (viewOf x .layout .index % 8) 0)) (not (eqb (viewOf x .layout .namelist % 8) 0)) index-even names-even)
 
         -- the sheet's number

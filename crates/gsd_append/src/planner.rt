@@ -247,7 +247,8 @@ fn plan_names<'a>(
 pub(crate) fn plan_append(image: &[u8], sheet: &[u8]) -> Planning
     ensures { λ r. ⌜ Plans (now (image .entry)) (now (sheet .entry)) (appendTest (now (image .entry)) (now (sheet .entry))) r ⌝ }
 {
-    let s = survey_of(image);
+    let mut starts = [0u32; 1025];
+    let s = survey_of(image, &mut starts);
     if s.number != 0 {
         return refused(s.number);
     }
@@ -272,7 +273,7 @@ pub(crate) fn plan_append(image: &[u8], sheet: &[u8]) -> Planning
         image,
         sheet,
         v,
-        &s.names.starts,
+        &starts,
         s.names.count,
         &rows.names,
         &rows.bodies,

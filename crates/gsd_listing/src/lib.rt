@@ -45,7 +45,8 @@ fn put_listing(image: &[u8], out: &mut [u8]) -> usize
     requires { ⌜ (length (now image) ≤ longestInput) × (262144 ≤ length (now out)) ⌝ }
     ensures { λ r. ⌜ (take r (now (out .exit)) ≡ listing (now (image .entry))) × (r ≤ 262144) ⌝ }
 {
-    let s = survey_of(image);
+    let mut starts = [0u32; 1025];
+    let s = survey_of(image, &mut starts);
     if s.number != 0 {
         return put_line(out, 0, refused_line(s.number));
     }

@@ -140,18 +140,18 @@ pub record Found (img : List ℕ) (at n : ℕ) (starts : List ℕ) (count start 
   pub spans : count ≤ mostNames → Spans starts count (length img)
 
 module _ (img : List ℕ) (at n : ℕ) where
-  pub found-none : (starts : List ℕ) → length starts ≡ 1025 → getD starts 0 0 ≡ at → Found img at n starts 0 at
+  pub found-none : (starts : List ℕ) → length starts ≡ 1025 → Found img at n (set starts 0 at) 0 at
   unfolding partsFrom
-  found-none starts l e =
+  found-none starts l =
       let q : at + n - at ≡ n = omega arith in
       record {
-        long = l;
+        long = length-set starts 0 at ∙ l;
         within = omega arith;
         few = omega arith;
         counted = rw q (zero-add _);
         end = rw q;
         parts = λ _. rw q;
-        last = λ _. e;
+        last = λ _. getD-set-same starts 0 at 0 (omega arith);
         spans = λ _ i l. absurd (omega arith);
       }
 
@@ -189,7 +189,7 @@ module _ (img : List ℕ) (at n : ℕ) where
   found-full starts count start {next} f h g = rw (set-out starts (count + 1) next (omega (arith, f .long))) at g
 
   pub found-all : (starts : List ℕ) (count start next : ℕ) → Found img at n starts count start → next ≤ start →
-      Past img start (at + n) next → NamesFound img at n (record { count = count; end = start; starts = starts })
+      Past img start (at + n) next → NamesFound img at n starts (record { count = count; end = start })
   found-all starts count start next f l p =
       let e : partsAt img start start (at + n - start) ≡ [] = p .none (omega (arith, p .above)) in
       record {
@@ -339,19 +339,19 @@ module _ (img starts b : List ℕ) where
 
 -- What is found, by name and by place
 
-module _ (img : List ℕ) (at n : ℕ) (list : NameList) (found : NamesFound img at n list) where
+module _ (img : List ℕ) (at n : ℕ) (starts : List ℕ) (list : NameList) (found : NamesFound img at n starts list) where
   pub found-count : length (namesAt img at n) ≡ list .count
   found-count = length-map (partsAt img at at n) (bytesOf img) ∙ sym (found .count)
 
-  pub found-names : list .count ≤ mostNames → namesIn img (list .starts) (list .count) ≡ namesAt img at n
+  pub found-names : list .count ≤ mostNames → namesIn img starts (list .count) ≡ namesAt img at n
   found-names h = ap (map (bytesOf img)) (found .parts h)
 
-  pub found-part : list .count ≤ mostNames → (i : ℕ) → i < list .count → getD (partsAt img at at n) i nowhere ≡ partAt (list .starts) i
-  found-part h i l = ap (λ ps. getD ps i nowhere) (sym (found .parts h)) ∙ from-at (list .count) (list .starts) 0 i l ∙ ap (partAt (list .starts)) (zero-add i)
+  pub found-part : list .count ≤ mostNames → (i : ℕ) → i < list .count → getD (partsAt img at at n) i nowhere ≡ partAt starts i
+  found-part h i l = ap (λ ps. getD ps i nowhere) (sym (found .parts h)) ∙ from-at (list .count) starts 0 i l ∙ ap (partAt starts) (zero-add i)
 
 -- The numbers 9 to 11 by what is found
 
-module _ (img : List ℕ) (l : Layout) (list : NameList) (found : NamesFound img (l .namelist) (64 * l .segments) list) where
+module _ (img : List ℕ) (l : Layout) (starts : List ℕ) (list : NameList) (found : NamesFound img (l .namelist) (64 * l .segments) starts list) where
   abbrev pub block : List (List ℕ)
   block = namesAt img (l .namelist) (64 * l .segments)
 
@@ -377,10 +377,10 @@ module _ (img : List ℕ) (l : Layout) (list : NameList) (found : NamesFound img
 
   pub number-many : more ≡ false → mostNames < list .count → namesTest img l block ≡ 10
   unfolding namesTest _⇒_ _▹_
-  number-many e h = rw (sym still ∙ e, lt-ltb mostNames (length block) (omega (arith, found-count _ _ _ _ found)))
+  number-many e h = rw (sym still ∙ e, lt-ltb mostNames (length block) (omega (arith, found-count _ _ _ _ _ found)))
 
-  pub number-twins : (b : Bool) → more ≡ false → list .count ≤ mostNames → twins (namesIn img (list .starts) (list .count)) ≡ b →
+  pub number-twins : (b : Bool) → more ≡ false → list .count ≤ mostNames → twins (namesIn img starts (list .count)) ≡ b →
       namesTest img l block ≡ (b ⇒ 11)
   unfolding namesTest _⇒_ _▹_
   number-twins b e h t =
-      rw (sym still ∙ e, le-ltb mostNames (length block) (omega (arith, found-count _ _ _ _ found)), sym (ap twins (found-names _ _ _ _ found h)) ∙ t)
+      rw (sym still ∙ e, le-ltb mostNames (length block) (omega (arith, found-count _ _ _ _ _ found)), sym (ap twins (found-names _ _ _ _ _ found h)) ∙ t)

@@ -28,8 +28,8 @@ use Rattle.gsd_read.specs.Surveys.{Laid, Surveyed}
 use Rattle.gsd_read.proofs.NameLists.{id-listed, found-count, found-names, found-part}
 
 -- a refusal says no more than its number
-refused : (img : List ℕ) (r : Survey) → r .number ≡ verdict img → (r .number ≡ 0 → ⊥) → Surveyed img r
-refused img r e n = record {
+refused : (img starts : List ℕ) (r : Survey) → r .number ≡ verdict img → (r .number ≡ 0 → ⊥) → Surveyed img starts r
+refused img starts r e n = record {
   number = e;
   layout = λ z. absurd (n z);
   names = λ z. absurd (n z);
@@ -39,16 +39,16 @@ refused img r e n = record {
 }
 
 -- the verdict is the number of the first part that refuses
-pub bad-header : (img : List ℕ) (r : Survey) → r .number ≡ headerTest img → (r .number ≡ 0 → ⊥) → Surveyed img r
+pub bad-header : (img starts : List ℕ) (r : Survey) → r .number ≡ headerTest img → (r .number ≡ 0 → ⊥) → Surveyed img starts r
 unfolding verdict
-bad-header img r e n = refused img r (e ∙ sym (stays _ _ (λ z. n (e ∙ z)))) n
+bad-header img starts r e n = refused img starts r (e ∙ sym (stays _ _ (λ z. n (e ∙ z)))) n
 
-pub bad-blocks : (img : List ℕ) (l : Layout) (r : Survey) → headerTest img ≡ 0 → l ≡ layoutOf img →
-    r .number ≡ blocksTest l → (r .number ≡ 0 → ⊥) → Surveyed img r
+pub bad-blocks : (img starts : List ℕ) (l : Layout) (r : Survey) → headerTest img ≡ 0 → l ≡ layoutOf img →
+    r .number ≡ blocksTest l → (r .number ≡ 0 → ⊥) → Surveyed img starts r
 unfolding verdict
-bad-blocks img l r header at e n =
+bad-blocks img starts l r header at e n =
     let q : r .number ≡ blocksTest (layoutOf img) = e ∙ ap blocksTest at in
-    refused img r (q ∙ sym (stays _ _ (λ z. n (q ∙ z))) ∙ sym (first-of _ _ header)) n
+    refused img starts r (q ∙ sym (stays _ _ (λ z. n (q ∙ z))) ∙ sym (first-of _ _ header)) n
 
 pub layout-length : (img : List ℕ) (l : Layout) → l ≡ layoutOf img → l .len ≡ length img
 unfolding layoutOf
@@ -75,19 +75,19 @@ module _ (img : List ℕ) (l : Layout) (laid : Laid img l) where
   block-names : block ≡ namesOf img
   block-names = (λ i. namesAt img (laid .layout i .namelist) (64 * laid .layout i .segments)) ∙ sym (names-of img)
 
-  pub bad-names : (r : Survey) → r .number ≡ namesTest img l block → (r .number ≡ 0 → ⊥) → Surveyed img r
-  bad-names r e n =
+  pub bad-names : (starts : List ℕ) (r : Survey) → r .number ≡ namesTest img l block → (r .number ≡ 0 → ⊥) → Surveyed img starts r
+  bad-names starts r e n =
       let q : r .number ≡ namesTest img (layoutOf img) (namesOf img) = e ∙ (λ i. namesTest img (laid .layout i) (block-names i)) in
-      refused img r (q ∙ sym (stays _ _ (λ z. n (q ∙ z))) ∙ sym behind) n
+      refused img starts r (q ∙ sym (stays _ _ (λ z. n (q ∙ z))) ∙ sym behind) n
 
   -- where no part refuses, the answer is what the walk says
-  pub walked : (list : NameList) (w : Walk) → namesTest img l block ≡ 0 → NamesFound img (l .namelist) (64 * l .segments) list →
+  pub walked : (starts : List ℕ) (list : NameList) (w : Walk) → namesTest img l block ≡ 0 → NamesFound img (l .namelist) (64 * l .segments) starts list →
       Walks l (list .count) (entriesAt img (l .index) (l .slots)) w →
-      Surveyed img (record { number = w .number; layout = l; names = list; entries = w .entries; frames = w .frames; end = w .end })
+      Surveyed img starts (record { number = w .number; layout = l; names = list; entries = w .entries; frames = w .frames; end = w .end })
   unfolding entriesOf
-  walked list w good found walks =
+  walked starts list w good found walks =
       let es : entriesAt img (l .index) (l .slots) ≡ entriesOf img = λ i. entriesAt img (laid .layout i .index) (laid .layout i .slots) in
-      let count : list .count ≡ length (namesOf img) = sym (found-count img _ _ list found) ∙ ap length block-names in
+      let count : list .count ≡ length (namesOf img) = sym (found-count img _ _ starts list found) ∙ ap length block-names in
       record {
         number = walks .number ∙ (λ i. entriesTest (laid .layout i) (count i) 0 0 (es i))
             ∙ sym (first-of _ _ ((λ i. namesTest img (sym (laid .layout) i) (sym block-names i)) ∙ good)) ∙ sym behind;
@@ -114,11 +114,11 @@ pub passed-on : {A : Type 0} (img : List ℕ) (refusal : ℕ → A) (answer : A)
 passed-on img refusal answer h zero e n = absurd (n refl)
 passed-on img refusal answer h (suc k) e n = sym (h k (sym e))
 
-module _ (img : List ℕ) (s : Survey) (told : Surveyed img s) (good : s .number ≡ 0) where
+module _ (img starts : List ℕ) (s : Survey) (told : Surveyed img starts s) (good : s .number ≡ 0) where
   pub opens : verdict img ≡ 0
   opens = sym (told .number) ∙ good
 
-  listed : NamesFound img (layoutOf img .namelist) (64 * layoutOf img .segments) (s .names)
+  listed : NamesFound img (layoutOf img .namelist) (64 * layoutOf img .segments) starts (s .names)
   listed = told .names good
 
   many-parts : s .names .count ≡ length (nameParts img)
@@ -132,11 +132,11 @@ module _ (img : List ℕ) (s : Survey) (told : Surveyed img s) (good : s .number
   pub few-names : s .names .count ≤ mostNames
   few-names = omega (arith, many-names, names-pass img (layoutOf img) (namesOf img) (verdict-zero img .0 opens .names) .1)
 
-  pub spans : Spans (s .names .starts) (s .names .count) (length img)
+  pub spans : Spans starts (s .names .count) (length img)
   spans = listed .spans few-names
 
-  pub kept-names : namesIn img (s .names .starts) (s .names .count) ≡ namesOf img
-  kept-names = found-names img _ _ (s .names) listed few-names ∙ sym (names-of img)
+  pub kept-names : namesIn img starts (s .names .count) ≡ namesOf img
+  kept-names = found-names img _ _ starts (s .names) listed few-names ∙ sym (names-of img)
 
   pub opened : opening img ≡ Opening.Open (record { frames = s .frames; names = s .names .count; entries = s .entries })
   unfolding countsOf
@@ -160,9 +160,9 @@ module _ (img : List ℕ) (s : Survey) (told : Surveyed img s) (good : s .number
   no-entry n h = opened-no-entry img opens n (omega (arith, told .entries good))
 
   -- the n-th name
-  pub name-there : (n : ℕ) → n < s .names .count → nthName img n ≡ Place.At (partAt (s .names .starts) n)
+  pub name-there : (n : ℕ) → n < s .names .count → nthName img n ≡ Place.At (partAt starts n)
   unfolding nameParts
-  name-there n h = opened-name img opens n (omega (arith, many-parts)) ∙ ap Place.At (found-part img _ _ (s .names) listed few-names n h)
+  name-there n h = opened-name img opens n (omega (arith, many-parts)) ∙ ap Place.At (found-part img _ _ starts (s .names) listed few-names n h)
 
   pub no-name : (n : ℕ) → s .names .count ≤ n → nthName img n ≡ Place.Refused 44
   no-name n h = opened-no-name img opens n (omega (arith, many-parts))
@@ -172,9 +172,9 @@ module _ (img : List ℕ) (s : Survey) (told : Surveyed img s) (good : s .number
     pub no-frame : s .frames ≤ frame → lookup img frame name ≡ Listed.Refused 40
     no-frame h = opened-lookup img opens frame name ∙ look-frame (entriesOf img) (namesOf img) frame name (omega (arith, told .frames good))
 
-    module _ (id : ℕ) (sought : id ≡ idFrom img (s .names .starts) name 0 (s .names .count)) (there : frame < s .frames) where
+    module _ (id : ℕ) (sought : id ≡ idFrom img starts name 0 (s .names .count)) (there : frame < s .frames) where
       place : indexOf name (namesOf img) ≡ id
-      place = ap (indexOf name) (sym kept-names) ∙ sym (sought ∙ id-listed img (s .names .starts) name (s .names .count) spans)
+      place = ap (indexOf name) (sym kept-names) ∙ sym (sought ∙ id-listed img starts name (s .names .count) spans)
 
       pub not-listed : s .names .count ≤ id → lookup img frame name ≡ Listed.Refused 41
       not-listed h =

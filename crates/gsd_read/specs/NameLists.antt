@@ -51,9 +51,9 @@ pub record Past (img : List ℕ) (start stop r : ℕ) : Type 0 where
   pub none : r ≡ start → partsAt img start start (stop - start) ≡ []
   pub one : start < r → partsAt img start start (stop - start) ≡ record { start = start; size = r - 1 - start } ∷ partsAt img r r (stop - r)
 
--- r is the list of the closed names in the n bytes from at
-pub record NamesFound (img : List ℕ) (at n : ℕ) (r : NameList) : Type 0 where
+-- r is the list of the closed names in the n bytes from at, and starts has their places
+pub record NamesFound (img : List ℕ) (at n : ℕ) (starts : List ℕ) (r : NameList) : Type 0 where
   pub count : r .count ≡ length (partsAt img at at n)
   pub end : r .end ≡ at + length (flat (namesAt img at n))
-  pub parts : r .count ≤ mostNames → partsFrom (r .starts) 0 (r .count) ≡ partsAt img at at n
-  pub spans : r .count ≤ mostNames → Spans (r .starts) (r .count) (length img)
+  pub parts : r .count ≤ mostNames → partsFrom starts 0 (r .count) ≡ partsAt img at at n
+  pub spans : r .count ≤ mostNames → Spans starts (r .count) (length img)

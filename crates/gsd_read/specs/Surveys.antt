@@ -16,11 +16,11 @@ pub record Laid (img : List ℕ) (l : Layout) : Type 0 where
   pub header : headerTest img ≡ 0
   pub blocks : blocksTest l ≡ 0
 
--- all that is found of an image that opens; of a refused one only the number, and the other fields are free
-pub record Surveyed (img : List ℕ) (r : Survey) : Type 0 where
+-- all that is found of an image that opens; of a refused one only the number: the other fields, and starts, are free
+pub record Surveyed (img starts : List ℕ) (r : Survey) : Type 0 where
   pub number : r .number ≡ verdict img
   pub layout : r .number ≡ 0 → r .layout ≡ layoutOf img
-  pub names : r .number ≡ 0 → NamesFound img (layoutOf img .namelist) (64 * layoutOf img .segments) (r .names)
+  pub names : r .number ≡ 0 → NamesFound img (layoutOf img .namelist) (64 * layoutOf img .segments) starts (r .names)
   pub entries : r .number ≡ 0 → r .entries ≡ length (entriesOf img)
   pub frames : r .number ≡ 0 → r .frames ≡ framesOf (entriesOf img)
   pub end : r .number ≡ 0 → r .end ≡ chunksEnd (entriesOf img)

@@ -3,7 +3,7 @@ use crate::ids::name_id;
 use crate::index::chunk_bytes;
 use crate::index::entry_at;
 use crate::names::name_part;
-use crate::survey::survey_of;
+use crate::survey::survey_in;
 use gsd_format::Counts;
 use gsd_format::Entry;
 use gsd_format::Listed;
@@ -23,7 +23,8 @@ ghost use Rattle.gsd_read.specs.Lookups.{Inside};
 pub fn open(image: &[u8]) -> Opening
     ensures { λ r. ⌜ r ≡ opening (now (image .entry)) ⌝ }
 {
-    let s = survey_of(image);
+    let mut starts = [0u32; 1025];
+    let s = survey_in(image, &mut starts);
     if s.number != 0 {
         return Opening::Refused(s.number);
     }
@@ -37,7 +38,8 @@ pub fn open(image: &[u8]) -> Opening
 pub fn entry(image: &[u8], n: u64) -> Listed
     ensures { λ r. ⌜ r ≡ nthEntry (now (image .entry)) n ⌝ }
 {
-    let s = survey_of(image);
+    let mut starts = [0u32; 1025];
+    let s = survey_in(image, &mut starts);
     if s.number != 0 {
         return Listed::Refused(s.number);
     }
@@ -50,14 +52,15 @@ pub fn entry(image: &[u8], n: u64) -> Listed
 pub fn name(image: &[u8], n: u64) -> Place
     ensures { λ r. ⌜ r ≡ nthName (now (image .entry)) n ⌝ }
 {
-    let s = survey_of(image);
+    let mut starts = [0u32; 1025];
+    let s = survey_in(image, &mut starts);
     if s.number != 0 {
         return Place::Refused(s.number);
     }
     if s.names.count as u64 <= n {
         return Place::Refused(44);
     }
-    Place::At(name_part(&s.names.starts, n as usize))
+    Place::At(name_part(&starts, n as usize))
 }
 
 // The part of the image at a place.
@@ -112,7 +115,8 @@ fn find_entry(image: &[u8], index: u64, count: u64, frame: u64, id: u64) -> List
 pub fn lookup(image: &[u8], frame: u64, name: &[u8]) -> Listed
     ensures { λ r. ⌜ r ≡ lookup (now (image .entry)) frame (now (name .entry)) ⌝ }
 {
-    let s = survey_of(image);
+    let mut starts = [0u32; 1025];
+    let s = survey_in(image, &mut starts);
     if s.number != 0 {
         return Listed::Refused(s.number);
     }
@@ -120,7 +124,7 @@ pub fn lookup(image: &[u8], frame: u64, name: &[u8]) -> Listed
         return Listed::Refused(40);
     }
     let count = s.names.count;
-    let id = name_id(image, &s.names.starts, count, name);
+    let id = name_id(image, &starts, count, name);
     if count <= id {
         return Listed::Refused(41);
     }

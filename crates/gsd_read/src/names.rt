@@ -13,12 +13,12 @@ ghost use Rattle.gsd_read.specs.NameLists.{partAt, namesIn, Past, Span, 
 use gsd_format::Layout;
 use gsd_format::Part;
 
-// The closed names of a name block: their number, and the place behind the last one's zero. Where there are at most
-// 1,024, starts has the place of each, then that end: a name goes up to the byte before the next place.
+// The closed names of a name block: their number, and the place behind the last one's zero. Their places are kept beside
+// it, in an array `starts`: where there are at most 1,024, the place of each, then that end. A name goes up to the byte
+// before the next place.
 pub struct NameList {
     pub count: usize,
     pub end: usize,
-    pub starts: [u32; 1025],
 }
 
 // Behind the zero of the name that starts here, or here where no name is closed before stop.
@@ -37,12 +37,11 @@ fn past_name(image: &[u8], start: usize, stop: usize) -> usize
 }
 
 // One pass over the block. A longer list is counted to its end too: 9 comes before 10.
-pub(crate) fn name_list(image: &[u8], at: usize, n: usize) -> NameList
-    requires { ⌜ (at + n ≤ length (now image)) × (length (now image) ≤ greatestLength) ⌝ }
-    ensures { λ r. ⌜ NamesFound (now (image .entry)) at n r ⌝ }
+pub(crate) fn name_list(image: &[u8], at: usize, n: usize, starts: &mut [u32; 1025]) -> NameList
+    requires { ⌜ (at + n ≤ length (now image)) × ((length (now image) ≤ greatestLength) × (length (now starts) ≡ 1025)) ⌝ }
+    ensures { λ r. ⌜ NamesFound (now (image .entry)) at n (now (starts .exit)) r ⌝ }
 {
     let stop = at + n;
-    let mut starts = [0u32; 1025];
     starts[0] = at as u32;
     let mut count = 0;
     let mut start = at;
@@ -55,11 +54,7 @@ pub(crate) fn name_list(image: &[u8], at: usize, n: usize) -> NameList
         }
         next = past_name(image, start, stop);
     }
-    NameList {
-        count,
-        end: start,
-        starts,
-    }
+    NameList { count, end: start }
 }
 
 pub(crate) fn place(x: u32) -> usize
@@ -141,24 +136,18 @@ fn goes_on(image: &[u8], end: usize, stop: usize) -> bool
 }
 
 // 9, 10, 11, or 0 for none of them.
-pub(crate) fn names_number(
-    image: &[u8],
-    l: Layout,
-    count: usize,
-    end: usize,
-    starts: &[u32; 1025],
-) -> u64
+pub(crate) fn names_number(image: &[u8], l: Layout, names: NameList, starts: &[u32; 1025]) -> u64
     requires { ⌜ (l .namelist + 64 * l .segments ≤ length (now image))
-        × NamesFound (now image) (l .namelist) (64 * l .segments) (record { count = count; end = end; starts = now starts }) ⌝ }
+        × NamesFound (now image) (l .namelist) (64 * l .segments) (now starts) names ⌝ }
     ensures { λ r. ⌜ r ≡ namesTest (now (image .entry)) l (namesAt (now (image .entry)) (l .namelist) (64 * l .segments)) ⌝ }
 {
-    if goes_on(image, end, (l.namelist + 64 * l.segments) as usize) {
+    if goes_on(image, names.end, (l.namelist + 64 * l.segments) as usize) {
         return 9;
     }
-    if 1024 < count {
+    if 1024 < names.count {
         return 10;
     }
-    if has_twins(image, starts, count) {
+    if has_twins(image, starts, names.count) {
         return 11;
     }
     0

@@ -8,6 +8,7 @@ use crate::names::name_list;
 use crate::names::names_number;
 use gsd_format::Layout;
 ghost use mathlib.Core.Path.{_≡_};
+ghost use lib.ListN.{length};
 ghost use Rattle.gsd_read.specs.Surveys.{Laid, Surveyed};
 
 // The opening's number; where that is 0, where the blocks lie, the name list, the counts of entries and frames, and
@@ -33,11 +34,7 @@ fn refusal(number: u64) -> Survey
             namelist: 0,
             segments: 0,
         },
-        names: NameList {
-            count: 0,
-            end: 0,
-            starts: [0u32; 1025],
-        },
+        names: NameList { count: 0, end: 0 },
         entries: 0,
         frames: 0,
         end: 0,
@@ -45,16 +42,17 @@ fn refusal(number: u64) -> Survey
 }
 
 // The name list and the entry list, where header and blocks are good.
-fn survey_lists(image: &[u8], layout: Layout) -> Survey
-    requires { ⌜ Laid (now image) layout ⌝ }
-    ensures { λ r. ⌜ Surveyed (now (image .entry)) r ⌝ }
+fn survey_lists(image: &[u8], layout: Layout, starts: &mut [u32; 1025]) -> Survey
+    requires { ⌜ Laid (now image) layout × (length (now starts) ≡ 1025) ⌝ }
+    ensures { λ r. ⌜ Surveyed (now (image .entry)) (now (starts .exit)) r ⌝ }
 {
     let names = name_list(
         image,
         layout.namelist as usize,
         64 * layout.segments as usize,
+        starts,
     );
-    let number = names_number(image, layout, names.count, names.end, &names.starts);
+    let number = names_number(image, layout, names, starts);
     if number != 0 {
         return refusal(number);
     }
@@ -69,9 +67,11 @@ fn survey_lists(image: &[u8], layout: Layout) -> Survey
     }
 }
 
-// The only place that opens an image: every call starts here.
-pub fn survey_of(image: &[u8]) -> Survey
-    ensures { λ r. ⌜ Surveyed (now (image .entry)) r ⌝ }
+// The only place that opens an image: every call starts here. The names' places go to starts, which is lent because an
+// answer of its size would be copied.
+pub(crate) fn survey_in(image: &[u8], starts: &mut [u32; 1025]) -> Survey
+    requires { ⌜ length (now starts) ≡ 1025 ⌝ }
+    ensures { λ r. ⌜ Surveyed (now (image .entry)) (now (starts .exit)) r ⌝ }
 {
     let number = header_number(image);
     if number != 0 {
@@ -82,5 +82,13 @@ pub fn survey_of(image: &[u8]) -> Survey
     if number != 0 {
         return refusal(number);
     }
-    survey_lists(image, layout)
+    survey_lists(image, layout, starts)
+}
+
+// The same for other crates, whatever starts holds.
+pub fn survey_of(image: &[u8], starts: &mut [u32; 1025]) -> Survey
+    ensures { λ r. ⌜ Surveyed (now (image .entry)) (now (starts .exit)) r ⌝ }
+{
+    *starts = [0u32; 1025];
+    survey_in(image, starts)
 }

@@ -26,7 +26,7 @@ same-length c = search needs
 
 returns : tie.Need-returns
 returns c =
-    let img = c .before .before .before .before .before .before .before .before .before .before .args .image .now in
+    let img = c .before .before .before .before .before .before .before .before .before .before .before .args .image .now in
     let number = passed-on img (λ n. ascii "refused" ++ fields (n ∷ [])) (listing img) (listing-refused img) _
     (c .before .before .before .before .before .before .before .survey-of .ensures .number) (c .before .before .before .before .before .if1 .taken) in
     let line = c .before .before .put-line in
@@ -40,12 +40,12 @@ put-line-requires-2 c κs = search needs
 
 put-entries-requires : tie.Need-put-entries-requires
 put-entries-requires c κs =
-    let img = c .before .before .before .before .before .before .before .before .before .before .before .args .image .now in
+    let img = c .before .before .before .before .before .before .before .before .before .before .before .before .args .image .now in
     let told = c .before .before .before .before .before .before .before .before .survey-of .ensures in
     let good = c .before .before .before .before .before .before .if1 .left in
-    let verdict = opens img _ told good in
+    let verdict = opens img _ _ told good in
     let first = c .before .before .before .put-line2 in (
-      (verdict, index-there img _ told good, told .entries good),
+      (verdict, index-there img _ _ told good, told .entries good),
       omega (arith, told .entries good, entries-within img verdict, first .kept .0, first .ensures .1),
     )
 
@@ -54,16 +54,16 @@ same-length-2 c = search needs
 
 returns-2 : tie.Need-returns-2
 returns-2 c =
-    let img = c .before .before .before .before .before .before .before .before .before .before .before .before .before .before .args .image .now in
+    let img = c .before .before .before .before .before .before .before .before .before .before .before .before .before .before .before .args .image .now in
     let told = c .before .before .before .before .before .before .before .before .before .before .before .survey-of .ensures in
     let good = c .before .before .before .before .before .before .before .before .before .if1 .left in
-    let verdict = opens img _ told good in
+    let verdict = opens img _ _ told good in
     let first = c .before .before .before .before .before .before .put-line2 in
     let p = c .before .before .put-entries in (
       p .ensures .0
           ∙ ap (λ s. s ++ entryLines (entriesOf img))
           (first .ensures .0 ∙ c .before .before .before .before .before .before .before .counts-line .ensures .1
-          ∙ (λ i. countsLine (told .frames good i) (many-names img _ told good i) (told .entries good i)))
+          ∙ (λ i. countsLine (told .frames good i) (many-names img _ _ told good i) (told .entries good i)))
           ∙ sym (listing-open img verdict),
       omega (arith, told .entries good, entries-within img verdict, p .ensures .1, first .ensures .1),
     )

@@ -7,43 +7,43 @@ use Rattle.gsd_read.proofs.Surveys.{passed-on, opens, index-there, no-f
 use Rattle.gsd_read.proofs.found.lookup.Statement.{statement}
 use Rattle.gsd_read.proofs.found.lookup.Tie as tie
 
-survey-of-requires : tie.Need-survey-of-requires
-survey-of-requires c κs = search needs
+survey-in-requires : tie.Need-survey-in-requires
+survey-in-requires c κs = search needs
 
 returns : tie.Need-returns
-returns c = passed-on _ Listed.Refused _ (λ k r. refused-lookup _ k r _ _) _ (c .before .survey-of .ensures .number) (c .if1 .taken)
+returns c = passed-on _ Listed.Refused _ (λ k r. refused-lookup _ k r _ _) _ (c .before .before .survey-in .ensures .number) (c .if1 .taken)
 
 returns-2 : tie.Need-returns-2
-returns-2 c = sym (no-frame _ _ (c .before .before .survey-of .ensures) (c .before .if1 .left) _ _ (c .if2 .taken))
+returns-2 c = sym (no-frame _ _ _ (c .before .before .before .before .survey-in .ensures) (c .before .before .if1 .left) _ _ (c .if2 .taken))
 
 name-id-requires : tie.Need-name-id-requires
 name-id-requires c κs = search needs
 
 returns-3 : tie.Need-returns-3
 returns-3 c =
-    let there = c .before .before .before .before in
-    let good = there .before in
-    sym (not-listed _ _ (good .before .survey-of .ensures) (good .if1 .left) _ _ _ (c .before .name-id .ensures) (there .if2 .left) (c .if3 .taken))
+    let there = c .before .before .before in
+    let good = there .before .before in
+    sym (not-listed _ _ _ (good .before .before .survey-in .ensures) (good .if1 .left) _ _ _ (c .before .name-id .ensures) (there .if2 .left) (c .if3 .taken))
 
 find-entry-requires : tie.Need-find-entry-requires
 find-entry-requires c κs =
     let good = c .before .before .before .before .before in
-    let told = good .before .survey-of .ensures in
-    (opens _ _ told (good .if1 .left), index-there _ _ told (good .if1 .left), told .entries (good .if1 .left))
+    let told = good .before .before .survey-in .ensures in
+    (opens _ _ _ told (good .if1 .left), index-there _ _ _ told (good .if1 .left), told .entries (good .if1 .left))
 
 returns-4 : tie.Need-returns-4
 returns-4 c =
     let named = c .before .before in
-    let there = named .before .before .before in
-    let good = there .before in
-    let told = good .before .survey-of .ensures in
-    c .find-entry .ensures ∙ sym (look-on _ _ told (good .if1 .left) _ _ _ (named .name-id .ensures) (there .if2 .left) (c .before .if3 .left))
+    let there = named .before .before in
+    let good = there .before .before in
+    let told = good .before .before .survey-in .ensures in
+    c .find-entry .ensures ∙ sym (look-on _ _ _ told (good .if1 .left) _ _ _ (named .name-id .ensures) (there .if2 .left) (c .before .if3 .left))
 
 pub lookup-spec : {M : Type 1} → statement M
 lookup-spec =
     tie.close
     (tie.spec
-    survey-of-requires
+    survey-in-requires
     returns
     returns-2
     name-id-requires

@@ -1,6 +1,5 @@
 -- `gsd_read::names::name_list` meets its contract. Invariant: the names found so far are kept, and the rest of the list goes on from `start`.
 use Prim.Native.Nat.{_+_, _-_}
-use mathlib.Core.Path.{refl}
 use mathlib.Core.Logic.{⊎-elim}
 use borrow.Author.Needs.{needs}
 use Rattle.gsd_read.specs.NameLists.{Past}
@@ -20,14 +19,14 @@ add-stop c = search needs
 cast-starts : tie.Need-cast-starts Inv-loop μ-loop
 cast-starts c = search needs
 
-array-write-starts : tie.Need-array-write-starts Inv-loop μ-loop
-array-write-starts c = search needs
+element-write-starts : tie.Need-element-write-starts Inv-loop μ-loop
+element-write-starts c = search needs
 
 past-name-requires : tie.Need-past-name-requires Inv-loop μ-loop
 past-name-requires c κs = search needs
 
 loop-holds : tie.Need-loop-holds Inv-loop μ-loop
-loop-holds c = (found-none _ _ _ _ refl refl, c .past-name .ensures)
+loop-holds c = (found-none _ _ _ (c .before .before .args .starts .now) (c .before .before .pre .1 .1), c .past-name .ensures)
 
 add-count : tie.Need-add-count Inv-loop μ-loop
 add-count c = search needs
@@ -38,8 +37,8 @@ cast-starts-2 c = search needs
 mul-starts : tie.Need-mul-starts Inv-loop μ-loop
 mul-starts c = search needs
 
-array-write-starts-2 : tie.Need-array-write-starts-2 Inv-loop μ-loop
-array-write-starts-2 c = search needs
+element-write-starts-2 : tie.Need-element-write-starts-2 Inv-loop μ-loop
+element-write-starts-2 c = search needs
 
 past-name-requires-2 : tie.Need-past-name-requires-2 Inv-loop μ-loop
 past-name-requires-2 c κs = search needs
@@ -65,13 +64,13 @@ name-list-spec =
     μ-loop
     add-stop
     cast-starts
-    array-write-starts
+    element-write-starts
     past-name-requires
     loop-holds
     add-count
     cast-starts-2
     mul-starts
-    array-write-starts-2
+    element-write-starts-2
     past-name-requires-2
     loop-less
     loop-again

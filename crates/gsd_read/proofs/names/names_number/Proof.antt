@@ -20,24 +20,25 @@ goes-on-requires : tie.Need-goes-on-requires
 goes-on-requires c κs = search needs
 
 returns : tie.Need-returns
-returns c = sym (number-open _ _ _ (c .before .before .before .before .before .pre .1) (sym (c .before .goes-on .ensures) ∙ c .if1 .taken))
+returns c = sym (number-open _ _ _ _ (c .before .before .before .before .before .pre .1) (sym (c .before .goes-on .ensures) ∙ c .if1 .taken))
 
 returns-2 : tie.Need-returns-2
 returns-2 c =
-    let pre = c .before .before .before .before .before .before .pre in
-    sym (number-many _ _ _ (pre .1) (sym (c .before .before .goes-on .ensures) ∙ c .before .if1 .left) (c .if2 .taken))
+    let told = c .before .before in
+    sym (number-many _ _ _ _ (told .before .before .before .before .before .pre .1) (sym (told .before .goes-on .ensures) ∙ told .if1 .left) (c .if2 .taken))
 
 has-twins-requires : tie.Need-has-twins-requires
-has-twins-requires c κs = c .before .before .before .before .before .before .pre .1 .spans (c .if2 .left)
+has-twins-requires c κs = c .before .before .before .before .before .before .before .pre .1 .spans (c .if2 .left)
 
 -- with no more than 1,024 names, all closed, the twins decide
 twins-tell : (c : tie.After-has-twins) (b : Bool) → c .has-twins .result ≡ b →
-    let x = c .before .before .before .before .before .before .before .args in
+    let x = c .before .before .before .before .before .before .before .before .args in
     (b ⇒ 11) ≡ namesTest (x .image .now) (x .l) (namesAt (x .image .now) (x .l .namelist) (64 * x .l .segments))
 twins-tell c b e =
     let tests = c .before in
-    let pre = tests .before .before .before .before .before .before .pre in
-    sym (number-twins _ _ _ (pre .1) b (sym (tests .before .before .goes-on .ensures) ∙ tests .before .if1 .left) (tests .if2 .left)
+    let told = tests .before .before in
+    let pre = told .before .before .before .before .before .pre in
+    sym (number-twins _ _ _ _ (pre .1) b (sym (told .before .goes-on .ensures) ∙ told .if1 .left) (tests .if2 .left)
     (sym (c .has-twins .ensures) ∙ e))
 
 returns-3 : tie.Need-returns-3
