@@ -18,14 +18,14 @@ use Rattle.gsd_stores.proofs.Limits.{refused-answer, refused-image}
 use Rattle.gsd_stores.proofs.View.{Is}
 use Rattle.gsd_stores.proofs.Shown.{opens-shown}
 use Rattle.gsd_stores.proofs.Moments.{stores-are}
-use Rattle.gsd_append.specs.declared.plan.Plan.{Plan}
-use Rattle.gsd_append.specs.declared.turn.Turned.{Turned}
-use Rattle.gsd_append.specs.Exec.{steps, exec, storesOf}
-use Rattle.gsd_append.specs.Runs.{none, runsOf, half, Ready}
-use Rattle.gsd_append.specs.Turns.{ahead, Cursor, TurnSays}
+use Rattle.gsd_runs.specs.declared.plan.Plan.{Plan}
+use Rattle.gsd_runs.specs.declared.turn.Turned.{Turned}
+use Rattle.gsd_runs.specs.Exec.{steps, exec, storesOf}
+use Rattle.gsd_runs.specs.Runs.{none, runsOf, half, Ready}
+use Rattle.gsd_runs.specs.Turns.{ahead, Cursor, TurnSays}
 use Rattle.gsd_append.specs.Matches.{Matches}
-use Rattle.gsd_append.proofs.Steps.{steps-rest, exec-after, storesOf-length}
-use Rattle.gsd_append.proofs.Runs.{good-more}
+use Rattle.gsd_runs.proofs.Steps.{steps-rest, exec-after, storesOf-length}
+use Rattle.gsd_runs.proofs.Runs.{good-more}
 use Rattle.gsd_append.proofs.StoreList.{stores-listed}
 use Rattle.gsd_append.proofs.GoodRuns.{plan-ready}
 

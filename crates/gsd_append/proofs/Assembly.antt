@@ -13,11 +13,11 @@ use Rattle.gsd_stores.specs.Sheet.{rowCount, tableEnd, rowsOf}
 use Rattle.gsd_stores.specs.Demand3.{noRow}
 use Rattle.gsd_stores.proofs.Sheet.{start-rises, name-length, body-length, rows-count}
 use Rattle.gsd_stores.proofs.Rows.{bodyOffset, offset-first, offset-next}
-use Rattle.gsd_append.specs.Runs.{half}
-use Rattle.gsd_append.specs.SheetRows.{Located}
+use Rattle.gsd_runs.specs.Runs.{half}
+use Rattle.gsd_sheet.specs.Rows.{Located}
 use Rattle.gsd_append.specs.RowIds.{RowNamed}
 use Rattle.gsd_append.specs.Filling.{Laid, dataOffset, nameOffset}
-use Rattle.gsd_append.proofs.SheetRows.{name-next, located-room, located-end}
+use Rattle.gsd_sheet.proofs.Rows.{name-next, located-room, located-end}
 use Rattle.gsd_append.proofs.Filling.{offset-none, offset-more, name-none, name-more}
 
 -- Where the rows lie

@@ -17,12 +17,12 @@ use Rattle.gsd_stores.specs.Steps.{clearIndex, clearNames, moved}
 use Rattle.gsd_stores.proofs.Stores.{words-append, up-cut}
 use Rattle.gsd_stores.proofs.View.{Base, IndexClear, Stage}
 use Rattle.gsd_stores.proofs.Clear.{clear-index, clear-names}
-use Rattle.gsd_append.specs.declared.run.Run.{Run}
-use Rattle.gsd_append.specs.declared.plan.Heads.{Heads}
-use Rattle.gsd_append.specs.Exec.{placeOf, wordOf, stepsFrom, steps, storesOf}
-use Rattle.gsd_append.specs.Runs.{number, clears}
+use Rattle.gsd_runs.specs.declared.run.Run.{Run}
+use Rattle.gsd_runs.specs.declared.plan.Heads.{Heads}
+use Rattle.gsd_runs.specs.Exec.{placeOf, wordOf, stepsFrom, steps, storesOf}
+use Rattle.gsd_runs.specs.Runs.{number, clears}
 use Rattle.gsd_append.specs.Matches.{copied, ifMoved, endWord, wordsBehind, HeadsMatch}
-use Rattle.gsd_append.proofs.Words.{cut-before, cut-behind, place-other, word-number}
+use Rattle.gsd_runs.proofs.Words.{cut-before, cut-behind, place-other, word-number}
 use Rattle.gsd_append.proofs.Octets.{no-octets}
 use Rattle.gsd_append.proofs.RunWords.{number-stores, copied-stores}
 use Rattle.gsd_append.proofs.Makes.{Makes, AnyImage, Always, _⨾_}

@@ -9,9 +9,9 @@ use Rattle.gsd_format.specs.Bytes.{le, roundUp}
 use Rattle.gsd_stores.specs.View.{alignment}
 use Rattle.gsd_stores.specs.Sheet.{rowKind}
 use Rattle.gsd_stores.proofs.Sheet.{rowAt}
-use Rattle.gsd_append.specs.SheetRows.{Filled}
+use Rattle.gsd_sheet.specs.Rows.{Filled}
 use Rattle.gsd_append.specs.Filling.{Laid, dataOffset, BodiesPlaced, nameOffset, NamesPlaced, EntriesFilled}
-use Rattle.gsd_append.proofs.SheetRows.{filled-none, filled-more, filled-to}
+use Rattle.gsd_sheet.proofs.Rows.{filled-none, filled-more, filled-to}
 
 -- Data
 

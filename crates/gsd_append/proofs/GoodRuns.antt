@@ -21,13 +21,13 @@ use Rattle.gsd_stores.proofs.View.{Is, is-long}
 use Rattle.gsd_stores.proofs.Valid.{Ready as Accepted}
 use Rattle.gsd_stores.proofs.Moments.{ready-good}
 use Rattle.gsd_stores.proofs.Whole.{block-even}
-use Rattle.gsd_append.specs.declared.run.Run.{Run}
-use Rattle.gsd_append.specs.declared.plan.Plan.{Plan}
-use Rattle.gsd_append.specs.Exec.{Good, steps}
-use Rattle.gsd_append.specs.Runs.{number, none, body, name, bodyRun, nameRun, ofFour, entryRun, tab, clears, block, slots, runsOf, Ready}
+use Rattle.gsd_runs.specs.declared.run.Run.{Run}
+use Rattle.gsd_runs.specs.declared.plan.Plan.{Plan}
+use Rattle.gsd_runs.specs.Exec.{Good, steps}
+use Rattle.gsd_runs.specs.Runs.{number, none, body, name, bodyRun, nameRun, ofFour, entryRun, tab, clears, block, slots, runsOf, Ready}
 use Rattle.gsd_append.specs.Matches.{copied, ifMoved, nameWords, HeadsMatch, NameMatch, Matches}
-use Rattle.gsd_append.proofs.Steps.{stepsFrom-length}
-use Rattle.gsd_append.proofs.Runs.{runs-length}
+use Rattle.gsd_runs.proofs.Steps.{stepsFrom-length}
+use Rattle.gsd_runs.proofs.Runs.{runs-length}
 use Rattle.gsd_append.proofs.Blocks.{moveRuns}
 
 -- all runs of a list are good

@@ -1,10 +1,4 @@
--- Laws of runs, their steps and their stores.
-pub mod Words
-pub mod Steps
-pub mod Runs
-pub mod Count
-pub mod Turns
--- a plan that matches an append makes its stores
+-- A plan that matches an append makes its stores.
 pub mod Octets
 pub mod RunWords
 pub mod Makes
@@ -16,7 +10,6 @@ pub mod Appends
 -- the plan that the code makes matches
 pub mod Growing
 pub mod SitesMatch
-pub mod SheetRows
 pub mod Filling
 pub mod RowIds
 pub mod Sorting

@@ -6,9 +6,9 @@ use lib.ListN.{length, take}
 use lib.Seq.{take-length}
 use Rattle.gsd_stores.specs.Stores.{Store, after}
 use Rattle.gsd_stores.proofs.Stores.{after-append}
-use Rattle.gsd_append.specs.declared.run.Run.{Run}
-use Rattle.gsd_append.specs.Exec.{Step, steps, exec, storesOf}
-use Rattle.gsd_append.proofs.Steps.{steps-append, storesOf-append, storesOf-length, exec-after}
+use Rattle.gsd_runs.specs.declared.run.Run.{Run}
+use Rattle.gsd_runs.specs.Exec.{Step, steps, exec, storesOf}
+use Rattle.gsd_runs.proofs.Steps.{steps-append, storesOf-append, storesOf-length, exec-after}
 
 pub exec-all : (sheet img : List ℕ) (ss : List Step) → exec sheet img ss ≡ after img (storesOf sheet img ss)
 exec-all sheet img ss =

@@ -19,10 +19,10 @@ use Rattle.gsd_stores.proofs.Sheet.{rows-count}
 use Rattle.gsd_stores.proofs.Rows.{new-listed, new-unlisted, new-next, new-id, new-is, nothing}
 use Rattle.gsd_read.specs.NameLists.{namesIn}
 use Rattle.gsd_read.proofs.NameLists.{names-all, names-long}
-use Rattle.gsd_append.specs.SheetRows.{sheetNames, nameOf, Filled, Located}
+use Rattle.gsd_sheet.specs.Rows.{sheetNames, nameOf, Filled, Located}
 use Rattle.gsd_append.specs.Order.{paired}
 use Rattle.gsd_append.specs.RowIds.{pairOf, RowNamed, IdsFound}
-use Rattle.gsd_append.proofs.SheetRows.{filled-none, filled-more, located-name, located-length}
+use Rattle.gsd_sheet.proofs.Rows.{filled-none, filled-more, located-name, located-length}
 
 module _ (names : List (List ℕ)) (rs : List Row) where
   abbrev nameIn : ℕ → List ℕ

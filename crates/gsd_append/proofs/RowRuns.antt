@@ -30,12 +30,12 @@ use Rattle.gsd_stores.proofs.NewEntries.{index-entry}
 use Rattle.gsd_stores.proofs.Sheet.{nameAt, bodyAt, Exact, rows-count, body-length, body-text, start-next}
 use Rattle.gsd_stores.proofs.Rows.{padded-length, padded-byte, bodies-even, bodies-text}
 use Rattle.gsd_stores.proofs.Rows.{bodyOffset, offset-first, offset-next, offset-even, offset-inside, offset-last}
-use Rattle.gsd_append.specs.declared.run.Run.{Run}
-use Rattle.gsd_append.specs.declared.plan.Plan.{Plan}
-use Rattle.gsd_append.specs.Exec.{over, steps, storesOf}
-use Rattle.gsd_append.specs.Runs.{number, body, name, bodyRun, nameRun, ofFour, entryRun, tab}
+use Rattle.gsd_runs.specs.declared.run.Run.{Run}
+use Rattle.gsd_runs.specs.declared.plan.Plan.{Plan}
+use Rattle.gsd_runs.specs.Exec.{over, steps, storesOf}
+use Rattle.gsd_runs.specs.Runs.{number, body, name, bodyRun, nameRun, ofFour, entryRun, tab}
 use Rattle.gsd_append.specs.Matches.{BodyMatch, EntryMatch}
-use Rattle.gsd_append.proofs.Words.{over-below, over-inside, over-above}
+use Rattle.gsd_runs.proofs.Words.{over-below, over-inside, over-above}
 use Rattle.gsd_append.proofs.Octets.{text-octets, octets-append, flat-octets, bodies-octets, index-octets}
 use Rattle.gsd_append.proofs.RunWords.{number-stores, body-stores, name-stores}
 use Rattle.gsd_append.proofs.Makes.{Makes, AnyImage, Always, _⨾_, makes-none}

@@ -12,12 +12,12 @@ use Rattle.gsd_format.specs.Bytes.{le, leBytes, part, stored}
 use Rattle.gsd_format.proofs.Bytes.{Octets, le-same, leBytes-length, stored-length, stored-below}
 use Rattle.gsd_stores.specs.Stores.{eightOf, words, up, down}
 use Rattle.gsd_stores.proofs.Stores.{eight-at}
-use Rattle.gsd_append.specs.declared.run.Run.{Run}
-use Rattle.gsd_append.specs.Exec.{placeOf, over, wordOf, applied, stepsFrom, steps, storesOf}
-use Rattle.gsd_append.specs.Runs.{number, body, name}
+use Rattle.gsd_runs.specs.declared.run.Run.{Run}
+use Rattle.gsd_runs.specs.Exec.{placeOf, over, wordOf, applied, stepsFrom, steps, storesOf}
+use Rattle.gsd_runs.specs.Runs.{number, body, name}
 use Rattle.gsd_append.specs.Matches.{copied}
-use Rattle.gsd_append.proofs.Words.{cut-before, cut-behind, place-name, place-other, source-name, source-other}
-use Rattle.gsd_append.proofs.Words.{text-image, text-sheet, text-name, word-number, word-read}
+use Rattle.gsd_runs.proofs.Words.{cut-before, cut-behind, place-name, place-other, source-name, source-other}
+use Rattle.gsd_runs.proofs.Words.{text-image, text-sheet, text-name, word-number, word-read}
 
 -- A number's eight bytes are those that it was read from
 

@@ -9,7 +9,7 @@ use Rattle.gsd_stores.specs.View.{View, namesEnd}
 use Rattle.gsd_stores.specs.Sheet.{Row}
 use Rattle.gsd_stores.specs.Plan.{Plan, planOf, dataEnd, namesDone, finalPosition}
 use Rattle.gsd_append.specs.declared.sites.Sites.{Sites}
-use Rattle.gsd_append.specs.Runs.{number}
+use Rattle.gsd_runs.specs.Runs.{number}
 use Rattle.gsd_append.specs.Matches.{copied, ifMoved, HeadsMatch}
 use Rattle.gsd_append.specs.Sites.{sitesOf, clearsOf, nameBlockOf, indexBlockOf, headsOf}
 

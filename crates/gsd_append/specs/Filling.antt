@@ -10,8 +10,8 @@ use Rattle.gsd_stores.proofs.Sheet.{rowAt}
 use Rattle.gsd_append.specs.declared.fill.BodyPlaces.{BodyPlaces}
 use Rattle.gsd_append.specs.declared.fill.NamePlaces.{NamePlaces}
 use Rattle.gsd_append.specs.declared.fill.EntryNumbers.{EntryNumbers}
-use Rattle.gsd_append.specs.SheetRows.{Filled}
-use Rattle.gsd_append.specs.Runs.{half}
+use Rattle.gsd_sheet.specs.Rows.{Filled}
+use Rattle.gsd_runs.specs.Runs.{half}
 
 -- row i's name lies in the sheet from names i to bodies i, its data from there to names (i + 1)
 pub record Laid (names bodies : List ℕ) (count : ℕ) : Type 0 where

@@ -16,10 +16,10 @@ use Rattle.gsd_stores.specs.Steps.{nameBlock, indexBlock}
 use Rattle.gsd_stores.specs.Demand3.{noRow}
 use Rattle.gsd_stores.proofs.Sheet.{nameAt, bodyAt}
 use Rattle.gsd_stores.proofs.Rows.{bodyOffset}
-use Rattle.gsd_append.specs.declared.run.Run.{Run}
-use Rattle.gsd_append.specs.declared.plan.Heads.{Heads}
-use Rattle.gsd_append.specs.declared.plan.Plan.{Plan}
-use Rattle.gsd_append.specs.Runs.{number, none}
+use Rattle.gsd_runs.specs.declared.run.Run.{Run}
+use Rattle.gsd_runs.specs.declared.plan.Heads.{Heads}
+use Rattle.gsd_runs.specs.declared.plan.Plan.{Plan}
+use Rattle.gsd_runs.specs.Runs.{number, none}
 
 -- n words copied within the image, those behind `until` as zeros
 abbrev pub copied : ℕ → ℕ → ℕ → ℕ → Run

@@ -12,14 +12,14 @@ use Rattle.gsd_stores.specs.View.{viewOf, indexEnd, namelistEnd, namesEnd}
 use Rattle.gsd_stores.specs.Sheet.{rowCount, rowsOf, sheetTest}
 use Rattle.gsd_stores.specs.Plan.{Plan as Defined, planOf}
 use Rattle.gsd_stores.proofs.Sheet.{rowAt}
-use Rattle.gsd_append.specs.declared.plan.Heads.{Heads}
-use Rattle.gsd_append.specs.declared.plan.Plan.{Plan}
+use Rattle.gsd_runs.specs.declared.plan.Heads.{Heads}
+use Rattle.gsd_runs.specs.declared.plan.Plan.{Plan}
 use Rattle.gsd_append.specs.declared.sites.Sites.{Sites}
 use Rattle.gsd_append.specs.declared.fill.BodyPlaces.{BodyPlaces}
 use Rattle.gsd_append.specs.declared.ids.Ids.{Ids}
 use Rattle.gsd_append.specs.declared.planner.Seen.{Seen}
 use Rattle.gsd_append.specs.declared.planner.Planning.{Planning}
-use Rattle.gsd_append.specs.SheetRows.{Located}
+use Rattle.gsd_sheet.specs.Rows.{Located}
 use Rattle.gsd_append.specs.RowIds.{IdsFound}
 use Rattle.gsd_append.specs.Filling.{NamesPlaced, EntriesFilled}
 use Rattle.gsd_append.specs.Matches.{Matches}

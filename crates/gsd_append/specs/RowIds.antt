@@ -8,7 +8,7 @@ use Rattle.gsd_stores.specs.Sheet.{Row}
 use Rattle.gsd_stores.specs.Plan.{newNames}
 use Rattle.gsd_stores.specs.Demand3.{noRow}
 use Rattle.gsd_append.specs.declared.ids.Ids.{Ids}
-use Rattle.gsd_append.specs.SheetRows.{Filled}
+use Rattle.gsd_sheet.specs.Rows.{Filled}
 use Rattle.gsd_append.specs.Order.{paired}
 
 -- row i's id, among the listed names and the new ones behind them, with i as one number

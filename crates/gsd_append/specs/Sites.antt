@@ -5,11 +5,11 @@ use lib.Dec.{ltb}
 use Rattle.gsd_format.specs.declared.Layout.{Layout}
 use Rattle.gsd_stores.specs.View.{namelistEnd}
 use Rattle.gsd_stores.specs.Plan.{grown}
-use Rattle.gsd_append.specs.declared.plan.Heads.{Heads}
+use Rattle.gsd_runs.specs.declared.plan.Heads.{Heads}
 use Rattle.gsd_append.specs.declared.sites.Sites.{Sites}
 use Rattle.gsd_append.specs.declared.sites.Block.{Block}
 use Rattle.gsd_append.specs.declared.sites.Clears.{Clears}
-use Rattle.gsd_append.specs.Runs.{number}
+use Rattle.gsd_runs.specs.Runs.{number}
 use Rattle.gsd_append.specs.Matches.{copied, ifMoved}
 
 -- the places behind the data, which end at `end`, when the names need so many bytes and the entries so many slots

@@ -3,7 +3,9 @@ ghost use Prim.Native.Nat.{ℕ, _+_, _*_, _/_, _%_, _≤_, _<_};
 ghost use lib.ListN.{length, getD};
 ghost use Rattle.gsd_stores.proofs.Sheet.{rowAt};
 ghost use Rattle.gsd_append.specs.Filling.{Laid, BodiesPlaced, NamesPlaced, EntriesFilled};
-use crate::sheet;
+use gsd_sheet::row_kind;
+use gsd_sheet::row_m;
+use gsd_sheet::row_n;
 
 pub struct BodyPlaces {
     pub to: [usize; 64],
@@ -96,10 +98,10 @@ pub(crate) fn fill_entries(
     while s < count {
         let packed = order[s];
         let row = (packed % 64) as usize;
-        n[s] = sheet::row_n(sheet, row);
-        meta[s] = sheet::row_m(sheet, row)
+        n[s] = row_n(sheet, row);
+        meta[s] = row_m(sheet, row)
             + 4294967296 * (packed / 64)
-            + 281474976710656 * gsd_bytes::wide(sheet::row_kind(sheet, row));
+            + 281474976710656 * gsd_bytes::wide(row_kind(sheet, row));
         location[s] = to[row] as u64;
         s += 1;
     }

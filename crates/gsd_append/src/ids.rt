@@ -9,7 +9,7 @@ ghost use Rattle.gsd_format.specs.Opening.{mostNames};
 ghost use Rattle.gsd_format.proofs.Ids.{Distinct};
 ghost use Rattle.gsd_stores.specs.Sheet.{rowCount, rowsOf};
 ghost use Rattle.gsd_read.specs.NameLists.{namesIn, Spans};
-ghost use Rattle.gsd_append.specs.SheetRows.{sheetNames, Located};
+ghost use Rattle.gsd_sheet.specs.Rows.{sheetNames, Located};
 ghost use Rattle.gsd_append.specs.Order.{paired};
 ghost use Rattle.gsd_append.specs.RowIds.{IdsFound};
 

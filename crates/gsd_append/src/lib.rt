@@ -2,13 +2,10 @@
 mod fill;
 mod ids;
 mod order;
-mod plan;
 mod planner;
-mod run;
-mod sheet;
 mod sites;
-mod turn;
 
+use gsd_runs::turn;
 use gsd_stores::Appended;
 use planner::plan_append;
 ghost use mathlib.Core.Path.{_≡_};

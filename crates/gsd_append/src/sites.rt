@@ -6,12 +6,12 @@ ghost use Rattle.gsd_format.specs.Bytes.{roundUp};
 ghost use Rattle.gsd_format.specs.Header.{headerSize, greatestLength};
 ghost use Rattle.gsd_stores.specs.View.{alignment, indexEnd, namelistEnd};
 ghost use Rattle.gsd_stores.specs.Plan.{grown};
-ghost use Rattle.gsd_append.specs.Runs.{number};
+ghost use Rattle.gsd_runs.specs.Runs.{number};
 ghost use Rattle.gsd_append.specs.Matches.{copied};
 ghost use Rattle.gsd_append.specs.Sites.{sitesOf, blockOf, clearsOf, nameBlockOf, indexBlockOf, headsOf};
-use crate::plan::Heads;
-use crate::run::Run;
 use gsd_format::Layout;
+use gsd_runs::Heads;
+use gsd_runs::Run;
 
 fn greater(a: u64, b: u64) -> u64
     ensures { λ r. ⌜ r ≡ max a b ⌝ }

@@ -8,7 +8,7 @@ use Rattle.gsd_stores.specs.Sheet.{rowsOf}
 use Rattle.gsd_stores.proofs.Sheet.{rows-count}
 use Rattle.gsd_read.specs.NameLists.{namesIn}
 use Rattle.gsd_append.proofs.RowIds.{Listing, listing-none, count-in, row-listed, row-new, listing-all}
-use Rattle.gsd_append.proofs.SheetRows.{located-room, located-end}
+use Rattle.gsd_sheet.proofs.Rows.{located-room, located-end}
 use Rattle.gsd_append.proofs.ids.find_ids.Statement.{statement}
 use Rattle.gsd_append.proofs.ids.find_ids.Tie as tie
 use Rattle.gsd_append.proofs.ids.find_ids.Reads as reads

@@ -1,6 +1,6 @@
 use Prim.Native.Nat.{ℕ, _+_, _*_, _-_, _/_}
 use mathlib.Core.Path.{ap, _∙_}
-use Rattle.gsd_append.specs.Runs.{number}
+use Rattle.gsd_runs.specs.Runs.{number}
 use Rattle.gsd_append.specs.Matches.{copied}
 use borrow.Author.Needs.{needs}
 use Rattle.gsd_append.proofs.sites.clear_runs.Statement.{statement}

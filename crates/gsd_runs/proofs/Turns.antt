@@ -1,0 +1,145 @@
+-- Laws of a turn: the cursor goes from run to run until the limit or the runs end, and turns in a row are one.
+use Prim.Native.Nat.{ℕ, _+_, _-_, _≤_, _<_, min}
+use mathlib.Core.Path.{_≡_, refl, sym, _∙_, ap}
+use mathlib.Core.List.{List, [], _∷_}
+use native.Mathlib.Nat.{sub-self}
+use native.Mathlib.Numerals.{add-one}
+use native.Mathlib.Omega.{arith}
+use lib.ListN.{length, getD, take, drop, length-drop, drop-of-length-le}
+use lib.Seq.{drop-cons, drop-drop, take-add}
+use Rattle.gsd_stores.specs.Stores.{Store, after}
+use Rattle.gsd_runs.specs.declared.run.Run.{Run}
+use Rattle.gsd_runs.specs.declared.plan.Plan.{Plan}
+use Rattle.gsd_runs.specs.declared.turn.Turned.{Turned}
+use Rattle.gsd_runs.specs.Exec.{Good, Step, stepsFrom, steps, rest, exec, storesOf}
+use Rattle.gsd_runs.specs.Runs.{none, runsOf, Ready}
+use Rattle.gsd_runs.specs.Turns.{ahead, Cursor, Walked, TurnSays}
+use Rattle.gsd_runs.proofs.Steps.{rest-take, rest-drop, rest-next, rest-length, steps-rest, exec-append, exec-length, exec-after, storesOf-length}
+
+-- Some of the steps are made
+
+pub walked-none : (sheet img : List ℕ) (all : List Step) → Walked sheet img all 0 img all
+unfolding exec
+walked-none sheet img all = record { image = refl; left = refl; within = omega arith }
+
+pub walked-more : (sheet img₀ : List ℕ) (all : List Step) (k : ℕ) (img : List ℕ) (here : List Step) (n : ℕ)
+    → Walked sheet img₀ all k img here → n ≤ length here → Walked sheet img₀ all (k + n) (exec sheet img (take n here)) (drop n here)
+walked-more sheet img₀ all k img here n h l = record {
+  image = rw (h .image, h .left, ← exec-append sheet img₀ (take k all) (take n (drop k all)), ← take-add k n all);
+  left = rw (h .left, drop-drop);
+  within = omega (arith, h .within, ap length (h .left) ∙ length-drop k all);
+}
+
+-- The loop over the runs
+
+pub record Turning (sheet img₀ : List ℕ) (p : Plan) (r₀ w₀ limit : ℕ) (img : List ℕ) (r w left : ℕ) : Type 0 where
+  pub walked : Walked sheet img₀ (ahead p r₀ w₀) (limit - left) img (ahead p r w)
+  pub free : left ≤ limit
+  pub cursor : Cursor p r w
+  pub long : length img ≡ length img₀
+
+pub turning-none : (sheet img : List ℕ) (p : Plan) (r w limit : ℕ) → Cursor p r w → Turning sheet img p r w limit img r w limit
+turning-none sheet img p r w limit c = record {
+  walked = rw sub-self (walked-none sheet img (ahead p r w));
+  free = omega arith;
+  cursor = c;
+  long = refl;
+}
+
+-- the run x at the cursor
+module _ (p : Plan) (r w : ℕ) (x : Run) (here : x ≡ getD (runsOf p) r none) (inside : r < length (runsOf p)) where
+  first-run : drop r (runsOf p) ≡ x ∷ drop (r + 1) (runsOf p)
+  first-run = rw (add-one, here) (drop-cons (runsOf p) r none inside)
+
+  ahead-take : (n : ℕ) → n ≤ x .words - w → take n (ahead p r w) ≡ stepsFrom x w n
+  ahead-take n h = rw first-run (rest-take x (drop (r + 1) (runsOf p)) w n h)
+
+  ahead-drop : (n : ℕ) → n ≤ x .words - w → drop n (ahead p r w) ≡ ahead p r (w + n)
+  ahead-drop n h = rw first-run (rest-drop x (drop (r + 1) (runsOf p)) w n h)
+
+  ahead-next : x .words ≤ w → ahead p r w ≡ ahead p (r + 1) 0
+  ahead-next h = rw first-run (rest-next x (drop (r + 1) (runsOf p)) w h)
+
+  ahead-length : x .words - w ≤ length (ahead p r w)
+  ahead-length = rw first-run (omega (arith, rest-length x (drop (r + 1) (runsOf p)) w))
+
+-- behind all runs nothing is left
+ahead-end : (p : Plan) (r w : ℕ) → length (runsOf p) ≤ r → ahead p r w ≡ []
+unfolding rest
+ahead-end p r w h = rw (drop-of-length-le (runsOf p) h)
+
+module _ (sheet img₀ : List ℕ) (p : Plan) (r₀ w₀ limit : ℕ) (img : List ℕ) (r w left : ℕ) (h : Turning sheet img₀ p r₀ w₀ limit img r w left) where
+  module _ (x : Run) (here : x ≡ getD (runsOf p) r none) (inside : r < length (runsOf p)) where
+    run-some : (n : ℕ) → n ≤ x .words - w → Walked sheet img₀ (ahead p r₀ w₀) (limit - left + n) (exec sheet img (stepsFrom x w n)) (ahead p r (w + n))
+    run-some n l =
+        rw (← ahead-take p r w x here inside n l, ← ahead-drop p r w x here inside n l)
+        (walked-more sheet img₀ (ahead p r₀ w₀) (limit - left) img (ahead p r w) n (h .walked) (omega (arith, ahead-length p r w x here inside)))
+
+    pub run-word : w ≤ x .words
+    run-word = rw here (h .cursor .word)
+
+    pub run-good : (m : ℕ) → Ready (length img₀) m p → Good (length img) m x
+    run-good m g = rw (here, h .long) (g .good r inside)
+
+    -- the rest of the run is made
+    pub run-more : x .words - w ≤ left → Turning sheet img₀ p r₀ w₀ limit (exec sheet img (stepsFrom x w (x .words - w))) (r + 1) 0 (left - (x .words - w))
+    run-more l =
+        let made : limit - (left - (x .words - w)) ≡ limit - left + (x .words - w) = omega (arith, h .free) in
+        record {
+          walked = rw (made, ← ahead-next p r (w + (x .words - w)) x here inside (omega arith)) (run-some (x .words - w) (omega arith));
+          free = omega (arith, h .free);
+          cursor = record { run = omega arith; word = omega arith };
+          long = exec-length sheet img (stepsFrom x w (x .words - w)) ∙ h .long;
+        }
+
+    -- the limit ends in the run
+    pub run-stop : left < x .words - w → TurnSays sheet img₀ p r₀ w₀ limit (record { run = r; word = w + left; made = limit }) (exec sheet img (stepsFrom x w left))
+    run-stop l =
+        let made : limit - left + left ≡ limit = omega (arith, h .free) in
+        let walked : Walked sheet img₀ (ahead p r₀ w₀) limit (exec sheet img (stepsFrom x w left)) (ahead p r (w + left)) = rw made at (run-some left (omega arith)) in
+        record {
+          walked = walked;
+          made = omega (arith, walked .within);
+          cursor = record { run = omega arith; word = rw (← here) (omega arith) };
+        }
+
+  -- all runs are made
+  pub turn-end : length (runsOf p) ≤ r → TurnSays sheet img₀ p r₀ w₀ limit (record { run = r; word = 0; made = limit - left }) img
+  turn-end l =
+      let none-left : [] ≡ drop (limit - left) (ahead p r₀ w₀) = sym (ahead-end p r w l) ∙ h .walked .left in
+      record {
+        walked = record { image = h .walked .image; left = ahead-end p r 0 l ∙ none-left; within = h .walked .within };
+        made = omega (arith, h .free, h .walked .within, ap length none-left ∙ length-drop (limit - left) (ahead p r₀ w₀));
+        cursor = record { run = h .cursor .run; word = omega arith };
+      }
+
+-- A turn from the beginning, by the stores of all steps
+
+pub first-cursor : (p : Plan) → Cursor p 0 0
+first-cursor p = record { run = omega arith; word = omega arith }
+
+module _ (sheet img : List ℕ) (p : Plan) (limit : ℕ) (t : Turned) (img′ : List ℕ) (h : TurnSays sheet img p 0 0 limit t img′) where
+  abbrev all-stores : List Store
+  all-stores = storesOf sheet img (steps (runsOf p))
+
+  all-ahead : ahead p 0 0 ≡ steps (runsOf p)
+  all-ahead = sym (steps-rest (runsOf p))
+
+  pub turn-made : t .made ≡ min limit (length all-stores)
+  turn-made = rw (storesOf-length sheet img (steps (runsOf p)), ← all-ahead) (h .made)
+
+  pub turn-image : img′ ≡ after img (take (t .made) all-stores)
+  turn-image = rw (← exec-after sheet img (steps (runsOf p)) (t .made), ← all-ahead) (h .walked .image)
+
+-- turns in a row are one with the sum of their limits
+pub turns-join : (sheet img : List ℕ) (p : Plan) (r w l₁ l₂ : ℕ) (t u : Turned) (img₁ img₂ : List ℕ)
+    → TurnSays sheet img p r w l₁ t img₁ → TurnSays sheet img₁ p (t .run) (t .word) l₂ u img₂
+    → TurnSays sheet img p r w (l₁ + l₂) (record { run = u .run; word = u .word; made = t .made + u .made }) img₂
+turns-join sheet img p r w l₁ l₂ t u img₁ img₂ h g =
+    let some : u .made ≤ length (ahead p (t .run) (t .word)) = omega (arith, g .walked .within) in
+    let there : length (ahead p (t .run) (t .word)) ≡ length (ahead p r w) - t .made = ap length (h .walked .left) ∙ length-drop (t .made) (ahead p r w) in
+    record {
+      walked = rw (g .walked .image, g .walked .left) (walked-more sheet img (ahead p r w) (t .made) img₁ (ahead p (t .run) (t .word)) (u .made) (h .walked) some);
+      made = omega (arith, h .made, g .made, there, h .walked .within);
+      cursor = g .cursor;
+    }

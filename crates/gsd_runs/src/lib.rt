@@ -1,0 +1,9 @@
+// The plan of an append as runs of stores, and the loop that makes them on the image. It is leaf code of the append: its
+// functions have a `requires`.
+mod plan;
+mod run;
+pub mod turn;
+
+pub use plan::Heads;
+pub use plan::Plan;
+pub use run::Run;

@@ -1,0 +1,253 @@
+// What an append will store: all its places and numbers, and the runs that follow from them.
+use crate::run::Run;
+ghost use mathlib.Core.Path.{_≡_};
+ghost use Prim.Native.Nat.{_+_, _-_, _*_, _/_, _%_, _≤_, _<_};
+ghost use lib.ListN.{getD};
+ghost use Rattle.gsd_runs.specs.Exec.{Good};
+ghost use Rattle.gsd_runs.specs.Runs.{none, body, name, ofFour, entry, headAt, headsFrom, planFrom, runsOf, half};
+
+// The runs that are there once, in their order; one that is not needed has no words.
+pub struct Heads {
+    pub clear_index: Run,
+    pub keep_names: Run,
+    pub clear_names: Run,
+    // behind the data
+    pub copy_names: Run,
+    pub clear_block: Run,
+    pub word24: Run,
+    pub word32: Run,
+    // behind the new names
+    pub copy_entries: Run,
+    pub clear_slots: Run,
+    pub word8: Run,
+    pub word16: Run,
+}
+
+// Row i's data lie in the sheet from body_from[i] to body_until[i] and go to body_to[i]; the j-th new name lies from
+// name_from[j] to name_until[j] and goes to name_at[j]. The new entries go to the slots from `slot` on, one for each row,
+// all of one frame; meta[s] is M + 2^32 * id + 2^48 * type.
+pub struct Plan {
+    pub rows: usize,
+    pub fresh: usize,
+    pub heads: Heads,
+    pub body_to: [usize; 64],
+    pub body_from: [usize; 64],
+    pub body_until: [usize; 64],
+    pub name_at: [usize; 64],
+    pub name_from: [usize; 64],
+    pub name_until: [usize; 64],
+    pub slot: usize,
+    pub frame: u64,
+    pub n: [u64; 64],
+    pub meta: [u64; 64],
+    pub location: [u64; 64],
+}
+
+// The runs that are there once, in one array that can be lent, six numbers to a run.
+pub(crate) fn laid(heads: Heads) -> [u64; 66]
+    ensures { λ r. ⌜ headsFrom r ≡ heads ⌝ }
+{
+    [
+        heads.clear_index.kind,
+        heads.clear_index.to as u64,
+        heads.clear_index.words as u64,
+        heads.clear_index.from as u64,
+        heads.clear_index.until as u64,
+        heads.clear_index.value,
+        heads.keep_names.kind,
+        heads.keep_names.to as u64,
+        heads.keep_names.words as u64,
+        heads.keep_names.from as u64,
+        heads.keep_names.until as u64,
+        heads.keep_names.value,
+        heads.clear_names.kind,
+        heads.clear_names.to as u64,
+        heads.clear_names.words as u64,
+        heads.clear_names.from as u64,
+        heads.clear_names.until as u64,
+        heads.clear_names.value,
+        heads.copy_names.kind,
+        heads.copy_names.to as u64,
+        heads.copy_names.words as u64,
+        heads.copy_names.from as u64,
+        heads.copy_names.until as u64,
+        heads.copy_names.value,
+        heads.clear_block.kind,
+        heads.clear_block.to as u64,
+        heads.clear_block.words as u64,
+        heads.clear_block.from as u64,
+        heads.clear_block.until as u64,
+        heads.clear_block.value,
+        heads.word24.kind,
+        heads.word24.to as u64,
+        heads.word24.words as u64,
+        heads.word24.from as u64,
+        heads.word24.until as u64,
+        heads.word24.value,
+        heads.word32.kind,
+        heads.word32.to as u64,
+        heads.word32.words as u64,
+        heads.word32.from as u64,
+        heads.word32.until as u64,
+        heads.word32.value,
+        heads.copy_entries.kind,
+        heads.copy_entries.to as u64,
+        heads.copy_entries.words as u64,
+        heads.copy_entries.from as u64,
+        heads.copy_entries.until as u64,
+        heads.copy_entries.value,
+        heads.clear_slots.kind,
+        heads.clear_slots.to as u64,
+        heads.clear_slots.words as u64,
+        heads.clear_slots.from as u64,
+        heads.clear_slots.until as u64,
+        heads.clear_slots.value,
+        heads.word8.kind,
+        heads.word8.to as u64,
+        heads.word8.words as u64,
+        heads.word8.from as u64,
+        heads.word8.until as u64,
+        heads.word8.value,
+        heads.word16.kind,
+        heads.word16.to as u64,
+        heads.word16.words as u64,
+        heads.word16.from as u64,
+        heads.word16.until as u64,
+        heads.word16.value,
+    ]
+}
+
+fn head_at(heads: &[u64; 66], k: usize) -> Run
+    requires { ⌜ k < 11 ⌝ }
+    ensures { λ r. ⌜ r ≡ headAt (now (heads .entry)) k ⌝ }
+{
+    let i = 6 * k;
+    Run {
+        kind: heads[i],
+        to: heads[i + 1] as usize,
+        words: heads[i + 2] as usize,
+        from: heads[i + 3] as usize,
+        until: heads[i + 4] as usize,
+        value: heads[i + 5],
+    }
+}
+
+// The other runs, by their numbers.
+
+fn body_run(to: usize, from: usize, until: usize) -> Run
+    requires { ⌜ (from ≤ until) × (until ≤ half) ⌝ }
+    ensures { λ r. ⌜ r ≡ body to from until ⌝ }
+{
+    Run {
+        kind: 1,
+        to: to,
+        words: (until - from + 7) / 8,
+        from: from,
+        until: until,
+        value: 0,
+    }
+}
+
+fn name_run(at: usize, from: usize, until: usize) -> Run
+    requires { ⌜ (from ≤ until) × (at + (until - from) ≤ half) ⌝ }
+    ensures { λ r. ⌜ r ≡ name at from until ⌝ }
+{
+    Run {
+        kind: 3,
+        to: at / 8 * 8,
+        words: (at + (until - from) + 7) / 8 - at / 8,
+        from: from,
+        until: until,
+        value: at as u64,
+    }
+}
+
+fn of_four(a: u64, b: u64, c: u64, d: u64, i: usize) -> u64
+    requires { ⌜ i < 4 ⌝ }
+    ensures { λ r. ⌜ r ≡ ofFour a b c d i ⌝ }
+{
+    match i {
+        0 => a,
+        1 => b,
+        2 => c,
+        _ => d,
+    }
+}
+
+// The i-th word of the entry at `at`.
+fn entry_run(at: usize, i: usize, frame: u64, n: u64, meta: u64, location: u64) -> Run
+    requires { ⌜ (i < 4) × (at + ofFour 0 8 24 16 i ≤ half) ⌝ }
+    ensures { λ r. ⌜ r ≡ entry at i frame n meta location ⌝ }
+{
+    let place = of_four(0, 8, 24, 16, i) as usize;
+    let value = of_four(frame, n, meta, location, i);
+    Run {
+        kind: 2,
+        to: at + place,
+        words: 1,
+        from: 0,
+        until: 0,
+        value: value,
+    }
+}
+
+fn entry_at<'a>(
+    rows: usize,
+    slot: usize,
+    frame: u64,
+    n: &'a [u64; 64],
+    meta: &'a [u64; 64],
+    location: &'a [u64; 64],
+    k: usize,
+) -> Run
+    requires { ⌜ (rows ≤ 64) × ((k < 4 * rows) × (slot + 32 * (rows - 1 - k / 4) + ofFour 0 8 24 16 (k % 4) ≤ half)) ⌝ }
+    ensures { λ r. ⌜ r ≡ entry (slot + 32 * (rows - 1 - k / 4)) (k % 4) frame (getD (now (n .entry)) (rows - 1 - k / 4) 0)
+        (getD (now (meta .entry)) (rows - 1 - k / 4) 0) (getD (now (location .entry)) (rows - 1 - k / 4) 0) ⌝ }
+{
+    let s = rows - 1 - k / 4;
+    entry_run(slot + 32 * s, k % 4, frame, n[s], meta[s], location[s])
+}
+
+// The r-th run of a plan, which is lent by its parts: its arrays are not copied.
+pub(crate) fn run_at<'a>(
+    rows: usize,
+    fresh: usize,
+    heads: &'a [u64; 66],
+    body_to: &'a [usize; 64],
+    body_from: &'a [usize; 64],
+    body_until: &'a [usize; 64],
+    name_at: &'a [usize; 64],
+    name_from: &'a [usize; 64],
+    name_until: &'a [usize; 64],
+    slot: usize,
+    frame: u64,
+    n: &'a [u64; 64],
+    meta: &'a [u64; 64],
+    location: &'a [u64; 64],
+    r: usize,
+) -> Run
+    requires { ⌜ (rows ≤ 64) × ((fresh ≤ rows) × ((r < 11 + fresh + 5 * rows) ×
+        Good half half (getD (runsOf (planFrom rows fresh (headsFrom (now heads)) (now «body_to») (now «body_from») (now «body_until») (now «name_at») (now «name_from») (now «name_until») slot frame (now n) (now meta) (now location))) r none))) ⌝ }
+    ensures { λ x. ⌜ x ≡ getD (runsOf (planFrom rows fresh (headsFrom (now (heads .entry))) (now («body_to» .entry)) (now («body_from» .entry)) (now («body_until» .entry)) (now («name_at» .entry)) (now («name_from» .entry)) (now («name_until» .entry)) slot frame (now (n .entry)) (now (meta .entry)) (now (location .entry)))) r none ⌝ }
+{
+    if r < 3 {
+        return head_at(heads, r);
+    }
+    let row = r - 3;
+    if row < rows {
+        return body_run(body_to[row], body_from[row], body_until[row]);
+    }
+    let b = row - rows;
+    if b < 4 {
+        return head_at(heads, 3 + b);
+    }
+    let j = b - 4;
+    if j < fresh {
+        return name_run(name_at[j], name_from[j], name_until[j]);
+    }
+    let e = j - fresh;
+    if e < 4 {
+        return head_at(heads, 7 + e);
+    }
+    entry_at(rows, slot, frame, n, meta, location, e - 4)
+}

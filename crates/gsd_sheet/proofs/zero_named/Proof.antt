@@ -1,0 +1,86 @@
+-- `gsd_sheet::zero_named` meets its contract.
+use Prim.Native.Nat.{_-_, _≤_}
+use mathlib.Core.Path.{_≡_, refl, sym, _∙_}
+use mathlib.Core.Bool.{true, false}
+use native.Mathlib.Omega.{arith}
+use lib.ListN.{length, drop}
+use borrow.Author.Needs.{needs}
+use Rattle.gsd_format.specs.Bytes.{zeroIn}
+use Rattle.gsd_stores.specs.Sheet.{anyZero}
+use Rattle.gsd_sheet.specs.Rows.{sheetNames, nameOf}
+use Rattle.gsd_sheet.proofs.Rows.{names-count, located-room, located-zero, zero-next, zero-none}
+use Rattle.gsd_sheet.proofs.zero_named.Statement.{statement}
+use Rattle.gsd_sheet.proofs.zero_named.Tie as tie
+
+abbrev Inv-loop : tie.InvT-loop
+Inv-loop sheet count names bodies i₀ i = (i ≤ count) × (anyZero (drop i (sheetNames sheet)) ≡ anyZero (sheetNames sheet))
+
+abbrev μ-loop : tie.MeasureT-loop
+μ-loop sheet count names bodies i₀ i = count - i
+
+loop-holds : tie.Need-loop-holds Inv-loop μ-loop
+loop-holds c = (search needs, refl)
+
+mul-has-zero : tie.Need-mul-has-zero Inv-loop μ-loop
+mul-has-zero c = search needs
+
+element-copy-out-has-zero : tie.Need-element-copy-out-has-zero Inv-loop μ-loop
+element-copy-out-has-zero c = search needs
+
+mul-has-zero-2 : tie.Need-mul-has-zero-2 Inv-loop μ-loop
+mul-has-zero-2 c = search needs
+
+element-copy-out-has-zero-2 : tie.Need-element-copy-out-has-zero-2 Inv-loop μ-loop
+element-copy-out-has-zero-2 c = search needs
+
+has-zero-requires : tie.Need-has-zero-requires Inv-loop μ-loop
+has-zero-requires c κs =
+    let head = c .before .before .before in
+    located-room (head .before .before .pre .0) (head .loop .i) (omega arith)
+
+returns : tie.Need-returns Inv-loop μ-loop
+returns c =
+    let head = c .before .before .before .before .before in
+    let s = head .before .before .args .sheet .now in
+    let i = head .loop .i in
+    let zero : zeroIn (nameOf s i) 0 (length (nameOf s i)) ≡ true =
+    located-zero (head .before .before .pre .0) i (omega arith) ∙ sym (c .before .has-zero .ensures) ∙ c .if1 .taken in
+    rw (← head .loop .inv .1, zero-next (sheetNames s) i (omega (arith, names-count s)), zero)
+
+add-i : tie.Need-add-i Inv-loop μ-loop
+add-i c = search needs
+
+loop-less : tie.Need-loop-less Inv-loop μ-loop
+loop-less c = search needs
+
+loop-again : tie.Need-loop-again Inv-loop μ-loop
+loop-again c =
+    let head = c .before .before .before .before .before in
+    let s = head .before .before .args .sheet .now in
+    let i = head .loop .i in
+    let full : zeroIn (nameOf s i) 0 (length (nameOf s i)) ≡ false =
+    located-zero (head .before .before .pre .0) i (omega arith) ∙ sym (c .before .has-zero .ensures) ∙ c .if1 .left in
+    (search needs, rw (← head .loop .inv .1, zero-next (sheetNames s) i (omega (arith, names-count s)), full))
+
+returns-2 : tie.Need-returns-2 Inv-loop μ-loop
+returns-2 c =
+    let s = c .before .before .before .args .sheet .now in
+    sym (sym (c .before .loop .inv .1) ∙ zero-none (sheetNames s) (c .before .loop .i) (omega (arith, names-count s)))
+
+pub zero-named-spec : {M : Type 1} → statement M
+zero-named-spec =
+    tie.close
+    (tie.spec
+    Inv-loop
+    μ-loop
+    loop-holds
+    mul-has-zero
+    element-copy-out-has-zero
+    mul-has-zero-2
+    element-copy-out-has-zero-2
+    has-zero-requires
+    returns
+    add-i
+    loop-less
+    loop-again
+    returns-2)

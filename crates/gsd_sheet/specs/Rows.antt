@@ -1,0 +1,54 @@
+-- What the code finds in a sheet: its number, and where each row's name and data lie.
+use Prim.Native.Nat.{ℕ, _+_, _≤_, _<_}
+use mathlib.Core.Path.{_≡_}
+use mathlib.Core.Bool.{Bool, not, _||_}
+use mathlib.Core.List.{List, []}
+use lib.ListN.{length, getD}
+use lib.Dec.{ltb, eqb}
+use Rattle.gsd_format.specs.Refusals.{_⇒_, _▹_}
+use Rattle.gsd_format.specs.Names.{indexOf}
+use Rattle.gsd_format.specs.Opening.{twins}
+use Rattle.gsd_stores.specs.Sheet.{badTable, bodiesEnd, rowCount, tableEnd, rowsOf, rowNames, anyZero, mostRows}
+use Rattle.gsd_stores.proofs.Sheet.{nameAt, bodyAt, Exact}
+use Rattle.gsd_sheet.specs.declared.SheetRows.{SheetRows}
+
+-- the names of the rows, and that of row i
+abbrev pub sheetNames : List ℕ → List (List ℕ)
+sheetNames s = rowNames (rowsOf s)
+
+abbrev pub nameOf : List ℕ → ℕ → List ℕ
+nameOf s i = getD (sheetNames s) i []
+
+-- the sheet's test in three parts: 22 to 24, 25, 26 and 27
+unfoldable pub tableTest : List ℕ → ℕ
+tableTest s =
+    (ltb (length s) 4 || eqb (rowCount s) 0 || ltb mostRows (rowCount s) ⇒ 22)
+    ▹ (ltb (length s) (tableEnd s) ⇒ 23)
+    ▹ (badTable s 4 (rowCount s) ⇒ 24)
+
+unfoldable pub endTest : List ℕ → ℕ
+endTest s = not (eqb (length s) (bodiesEnd s 4 (tableEnd s) (rowCount s))) ⇒ 25
+
+unfoldable pub namesTest : List ℕ → ℕ
+namesTest s = (anyZero (sheetNames s) ⇒ 26) ▹ (twins (sheetNames s) ⇒ 27)
+
+-- is the i-th name one of those before it?
+abbrev pub repeats : List (List ℕ) → ℕ → Bool
+repeats ns i = ltb (indexOf (getD ns i []) ns) i
+
+-- the first n numbers of l are f 0, f 1, ..
+pub record Filled (f : ℕ → ℕ) (l : List ℕ) (n : ℕ) : Type 0 where
+  pub at : (i : ℕ) → i < n → getD l i 0 ≡ f i
+
+-- row i's name lies from names i to bodies i, its data from there to names (i + 1); the last ends with the sheet
+pub record Located (s names bodies : List ℕ) : Type 0 where
+  pub few : rowCount s ≤ mostRows
+  pub exact : Exact s
+  pub name : Filled (nameAt s) names (rowCount s + 1)
+  pub body : Filled (bodyAt s) bodies (rowCount s)
+
+-- refused with the number k, or all rows are located
+pub record Found (s : List ℕ) (k : ℕ) (r : SheetRows) : Type 0 where
+  pub number : r .number ≡ k
+  pub count : k ≡ 0 → r .count ≡ rowCount s
+  pub rows : k ≡ 0 → Located s (r .names) (r .bodies)

@@ -1,0 +1,301 @@
+// The append sheet: its tests, numbers 22 to 27, and where the name and the data of each row lie in it.
+use gsd_bytes::has_zero;
+use gsd_bytes::same_part;
+use gsd_bytes::size_of;
+use gsd_bytes::u16_at;
+use gsd_bytes::u32_at;
+use gsd_bytes::u64_at;
+use gsd_bytes::wide;
+ghost use mathlib.Core.Path.{_≡_};
+ghost use Prim.Native.Nat.{_+_, _*_, _≤_, _<_, min};
+ghost use lib.ListN.{length};
+ghost use lib.Dec.{ltb};
+ghost use Rattle.gsd_format.specs.Bytes.{le, same};
+ghost use Rattle.gsd_format.specs.Types.{sizeOf};
+ghost use Rattle.gsd_format.specs.Opening.{twins};
+ghost use Rattle.gsd_stores.specs.Sheet.{rowKind, nameSize, bodySize, badRow, badTable, rowCount, tableEnd, anyZero, sheetTest};
+ghost use Rattle.gsd_stores.proofs.Sheet.{rowAt};
+ghost use Rattle.gsd_sheet.specs.Rows.{tableTest, endTest, namesTest, Located, Found, sheetNames, nameOf, repeats};
+
+const MOST_ROWS: usize = 64;
+
+// Row i's name lies from names[i] to bodies[i], its data from bodies[i] to names[i + 1]. A refusal has no rows.
+pub struct SheetRows {
+    pub number: u64,
+    pub count: usize,
+    pub names: [usize; 65],
+    pub bodies: [usize; 64],
+}
+
+fn refused(number: u64) -> SheetRows
+    ensures { λ r. ⌜ r .number ≡ number ⌝ }
+{
+    SheetRows {
+        number,
+        count: 0,
+        names: [0; 65],
+        bodies: [0; 64],
+    }
+}
+
+// Row i of the table: N, M, type and name length.
+pub fn row_n(sheet: &[u8], i: usize) -> u64
+    requires { ⌜ rowAt i + 16 ≤ length (now sheet) ⌝ }
+    ensures { λ r. ⌜ r ≡ le 8 (now (sheet .entry)) (rowAt i) ⌝ }
+{
+    u64_at(sheet, 4 + 16 * i)
+}
+
+pub fn row_m(sheet: &[u8], i: usize) -> u64
+    requires { ⌜ rowAt i + 16 ≤ length (now sheet) ⌝ }
+    ensures { λ r. ⌜ (r ≡ le 4 (now (sheet .entry)) (rowAt i + 8)) × (r < 4294967296) ⌝ }
+{
+    u32_at(sheet, 4 + 16 * i + 8)
+}
+
+pub fn row_kind(sheet: &[u8], i: usize) -> u8
+    requires { ⌜ rowAt i + 16 ≤ length (now sheet) ⌝ }
+    ensures { λ r. ⌜ r ≡ rowKind (now (sheet .entry)) (rowAt i) ⌝ }
+{
+    sheet[4 + 16 * i + 12]
+}
+
+fn name_size(sheet: &[u8], i: usize) -> usize
+    requires { ⌜ rowAt i + 16 ≤ length (now sheet) ⌝ }
+    ensures { λ r. ⌜ (r ≡ nameSize (now (sheet .entry)) (rowAt i)) × (r < 256) ⌝ }
+{
+    wide(sheet[4 + 16 * i + 13]) as usize
+}
+
+// 24
+fn bad_row(sheet: &[u8], i: usize) -> bool
+    requires { ⌜ rowAt i + 16 ≤ length (now sheet) ⌝ }
+    ensures { λ r. ⌜ r ≡ badRow (now (sheet .entry)) (rowAt i) ⌝ }
+{
+    if size_of(row_kind(sheet, i)) == 0 {
+        return true;
+    }
+    if name_size(sheet, i) == 0 {
+        return true;
+    }
+    u16_at(sheet, 4 + 16 * i + 14) != 0
+}
+
+fn bad_table(sheet: &[u8], count: usize) -> bool
+    requires { ⌜ rowAt count ≤ length (now sheet) ⌝ }
+    ensures { λ r. ⌜ r ≡ badTable (now (sheet .entry)) 4 count ⌝ }
+{
+    let mut i = 0;
+    while i < count {
+        if bad_row(sheet, i) {
+            return true;
+        }
+        i += 1;
+    }
+    false
+}
+
+// 22 to 24.
+fn table_number(sheet: &[u8]) -> u64
+    ensures { λ r. ⌜ r ≡ tableTest (now (sheet .entry)) ⌝ }
+{
+    if sheet.len() < 4 {
+        return 22;
+    }
+    let count = u32_at(sheet, 0) as usize;
+    if count == 0 {
+        return 22;
+    }
+    if MOST_ROWS < count {
+        return 22;
+    }
+    if sheet.len() < 4 + 16 * count {
+        return 23;
+    }
+    if bad_table(sheet, count) {
+        return 24;
+    }
+    0
+}
+
+// The bytes of M elements of row i.
+fn row_size(sheet: &[u8], i: usize) -> u64
+    requires { ⌜ rowAt i + 16 ≤ length (now sheet) ⌝ }
+    ensures { λ r. ⌜ (r ≡ le 4 (now (sheet .entry)) (rowAt i + 8) * sizeOf (rowKind (now (sheet .entry)) (rowAt i))) × (r < 34359738368) ⌝ }
+{
+    row_m(sheet, i) * size_of(row_kind(sheet, i))
+}
+
+// Is n * each more than room? Only a product that could wrap asks for a division.
+fn exceeds(n: u64, each: u64, room: u64) -> bool
+    requires { ⌜ each < 34359738368 ⌝ }
+    ensures { λ r. ⌜ r ≡ ltb room (n * each) ⌝ }
+{
+    if n < 268435456 {
+        return room < n * each;
+    }
+    if each == 0 {
+        return false;
+    }
+    room / each < n
+}
+
+// Where row i's data end if they begin at `body`; any place behind the sheet's end is sheet.len() + 1.
+fn body_end(sheet: &[u8], i: usize, body: usize) -> usize
+    requires { ⌜ rowAt i + 16 ≤ length (now sheet) ⌝ }
+    ensures { λ r. ⌜ r ≡ min (body + bodySize (now (sheet .entry)) (rowAt i)) (length (now (sheet .entry)) + 1) ⌝ }
+{
+    let len = sheet.len();
+    if len < body {
+        return len + 1;
+    }
+    let n = row_n(sheet, i);
+    let each = row_size(sheet, i);
+    if exceeds(n, each, (len - body) as u64) {
+        return len + 1;
+    }
+    body + (n * each) as usize
+}
+
+// 25: the rows one behind the other, and the sheet's end behind the last.
+fn place_rows(sheet: &[u8], count: usize) -> SheetRows
+    requires { ⌜ (count ≡ rowCount (now sheet)) × (count ≤ 64) × (tableEnd (now sheet) ≤ length (now sheet)) ⌝ }
+    ensures { λ r. ⌜ Found (now (sheet .entry)) (endTest (now (sheet .entry))) r ⌝ }
+{
+    let mut names = [0usize; 65];
+    let mut bodies = [0usize; 64];
+    let mut at = 4 + 16 * count;
+    let mut i = 0;
+    while i < count {
+        let body = at + name_size(sheet, i);
+        let end = body_end(sheet, i, body);
+        if sheet.len() < end {
+            return refused(25);
+        }
+        names[i] = at;
+        bodies[i] = body;
+        at = end;
+        i += 1;
+    }
+    if at != sheet.len() {
+        return refused(25);
+    }
+    names[count] = at;
+    SheetRows {
+        number: 0,
+        count,
+        names,
+        bodies,
+    }
+}
+
+// 26: is there a zero byte in one of the names?
+fn zero_named<'a>(
+    sheet: &[u8],
+    count: usize,
+    names: &'a [usize; 65],
+    bodies: &'a [usize; 64],
+) -> bool
+    requires { ⌜ Located (now sheet) (now names) (now bodies) × (count ≡ rowCount (now sheet)) ⌝ }
+    ensures { λ r. ⌜ r ≡ anyZero (sheetNames (now (sheet .entry))) ⌝ }
+{
+    let mut i = 0;
+    while i < count {
+        if has_zero(sheet, names[i], bodies[i]) {
+            return true;
+        }
+        i += 1;
+    }
+    false
+}
+
+// Have rows i and j the same name?
+fn same_name<'a>(
+    sheet: &[u8],
+    names: &'a [usize; 65],
+    bodies: &'a [usize; 64],
+    i: usize,
+    j: usize,
+) -> bool
+    requires { ⌜ Located (now sheet) (now names) (now bodies) × (i < rowCount (now sheet)) × (j < rowCount (now sheet)) ⌝ }
+    ensures { λ r. ⌜ r ≡ same (nameOf (now (sheet .entry)) i) (nameOf (now (sheet .entry)) j) ⌝ }
+{
+    let a = names[i];
+    let b = names[j];
+    let n = bodies[i] - a;
+    if bodies[j] - b != n {
+        return false;
+    }
+    same_part(sheet, a, sheet, b, n)
+}
+
+// Has a row before row i the same name?
+fn repeated<'a>(sheet: &[u8], names: &'a [usize; 65], bodies: &'a [usize; 64], i: usize) -> bool
+    requires { ⌜ Located (now sheet) (now names) (now bodies) × (i < rowCount (now sheet)) ⌝ }
+    ensures { λ r. ⌜ r ≡ repeats (sheetNames (now (sheet .entry))) i ⌝ }
+{
+    let mut j = 0;
+    while j < i {
+        if same_name(sheet, names, bodies, j, i) {
+            return true;
+        }
+        j += 1;
+    }
+    false
+}
+
+// 27: have two rows the same name?
+fn twin_named<'a>(
+    sheet: &[u8],
+    count: usize,
+    names: &'a [usize; 65],
+    bodies: &'a [usize; 64],
+) -> bool
+    requires { ⌜ Located (now sheet) (now names) (now bodies) × (count ≡ rowCount (now sheet)) ⌝ }
+    ensures { λ r. ⌜ r ≡ twins (sheetNames (now (sheet .entry))) ⌝ }
+{
+    let mut i = 0;
+    while i < count {
+        if repeated(sheet, names, bodies, i) {
+            return true;
+        }
+        i += 1;
+    }
+    false
+}
+
+fn names_number<'a>(
+    sheet: &[u8],
+    count: usize,
+    names: &'a [usize; 65],
+    bodies: &'a [usize; 64],
+) -> u64
+    requires { ⌜ Located (now sheet) (now names) (now bodies) × (count ≡ rowCount (now sheet)) ⌝ }
+    ensures { λ r. ⌜ r ≡ namesTest (now (sheet .entry)) ⌝ }
+{
+    if zero_named(sheet, count, names, bodies) {
+        return 26;
+    }
+    if twin_named(sheet, count, names, bodies) {
+        return 27;
+    }
+    0
+}
+
+pub fn sheet_rows(sheet: &[u8]) -> SheetRows
+    ensures { λ r. ⌜ Found (now (sheet .entry)) (sheetTest (now (sheet .entry))) r ⌝ }
+{
+    let number = table_number(sheet);
+    if number != 0 {
+        return refused(number);
+    }
+    let rows = place_rows(sheet, u32_at(sheet, 0) as usize);
+    if rows.number != 0 {
+        return rows;
+    }
+    let number = names_number(sheet, rows.count, &rows.names, &rows.bodies);
+    if number != 0 {
+        return refused(number);
+    }
+    rows
+}
