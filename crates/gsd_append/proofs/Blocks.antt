@@ -18,9 +18,8 @@ use Rattle.gsd_stores.proofs.Stores.{words-append, up-cut}
 use Rattle.gsd_stores.proofs.View.{Base, IndexClear, Stage}
 use Rattle.gsd_stores.proofs.Clear.{clear-index, clear-names}
 use Rattle.gsd_runs.specs.declared.run.Run.{Run}
-use Rattle.gsd_runs.specs.declared.plan.Heads.{Heads}
 use Rattle.gsd_runs.specs.Exec.{placeOf, wordOf, stepsFrom, steps, storesOf}
-use Rattle.gsd_runs.specs.Runs.{number, clears}
+use Rattle.gsd_runs.specs.Runs.{Heads, number, clears}
 use Rattle.gsd_append.specs.Matches.{copied, ifMoved, endWord, wordsBehind, HeadsMatch}
 use Rattle.gsd_runs.proofs.Words.{cut-before, cut-behind, place-other, word-number}
 use Rattle.gsd_append.proofs.Octets.{no-octets}
@@ -62,7 +61,7 @@ number-store sheet at w = record {
 -- Step 1
 
 module _ {x₀ : List ℕ} {v : View} {p : Defined} {h : Heads} (sheet : List ℕ) (m : HeadsMatch v p h) where
-  index-cleared : Makes sheet (Base x₀ v) (λ x. Base x₀ v x × IndexClear v x) (h .«clear_index» ∷ []) (clearIndex v)
+  index-cleared : Makes sheet (Base x₀ v) (λ x. Base x₀ v x × IndexClear v x) (h .clearIndex ∷ []) (clearIndex v)
   unfolding clearIndex
   index-cleared = record {
     same = λ img b.
@@ -73,7 +72,7 @@ module _ {x₀ : List ℕ} {v : View} {p : Defined} {h : Heads} (sheet : List �
 
   -- the word that holds the names' end keeps their bytes; all words behind it are zeros
   names-cleared : (d : ℕ) → Octets (flat (v .names)) → v .layout .namelist % 8 ≡ 0 →
-      Makes sheet (λ x. Base x₀ v x × IndexClear v x) (Stage x₀ v d []) (h .«keep_names» ∷ h .«clear_names» ∷ []) (clearNames v)
+      Makes sheet (λ x. Base x₀ v x × IndexClear v x) (Stage x₀ v d []) (h .keepNames ∷ h .clearNames ∷ []) (clearNames v)
   unfolding clearNames
   names-cleared d o even = record {
     same = λ img b. rw (m .keepNames, m .clearNames) ((keep ⨾ clear) .same img b ∙ sym two);

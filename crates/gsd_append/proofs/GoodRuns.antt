@@ -24,7 +24,7 @@ use Rattle.gsd_stores.proofs.Whole.{block-even}
 use Rattle.gsd_runs.specs.declared.run.Run.{Run}
 use Rattle.gsd_runs.specs.declared.plan.Plan.{Plan}
 use Rattle.gsd_runs.specs.Exec.{Good, steps}
-use Rattle.gsd_runs.specs.Runs.{number, none, body, name, bodyRun, nameRun, ofFour, entryRun, tab, clears, block, slots, runsOf, Ready}
+use Rattle.gsd_runs.specs.Runs.{number, none, body, name, bodyRun, nameRun, ofFour, entryRun, tab, clears, block, slots, runsOf, Ready, headsFrom}
 use Rattle.gsd_append.specs.Matches.{copied, ifMoved, nameWords, HeadsMatch, NameMatch, Matches}
 use Rattle.gsd_runs.proofs.Steps.{stepsFrom-length}
 use Rattle.gsd_runs.proofs.Runs.{runs-length}
@@ -133,15 +133,15 @@ module _ {x : List ℕ} {v : View} {p : Defined} (sheet : List ℕ) (r : Accepte
   abbrev Fine : Run → Type 0
   Fine = Good (length x) (length sheet)
 
-  clears-good : AllGood (length x) (length sheet) (clears (c .heads))
+  clears-good : AllGood (length x) (length sheet) (clears (headsFrom (c .heads)))
   clears-good =
-      let h : HeadsMatch v p (c .heads) = m .heads in
+      let h : HeadsMatch v p (headsFrom (c .heads)) = m .heads in
       let index : v .layout .index + 32 * v .layout .slots ≤ length x = omega (arith, is .blocks .indexHigh, is-long is) in
       let names : namelistEnd (v .layout) ≤ length x = omega (arith, is .blocks .namelistHigh, is-long is) in
-      let clear : Fine (c .heads .«clear_index») = rw (h .clearIndex) (good-number _ _ 0 (omega (arith, is .entries .few))) in
-      let keep : Fine (c .heads .«keep_names»)
+      let clear : Fine (headsFrom (c .heads) .clearIndex) = rw (h .clearIndex) (good-number _ _ 0 (omega (arith, is .entries .few))) in
+      let keep : Fine (headsFrom (c .heads) .keepNames)
       = rw (h .keepNames) (good-copied _ _ _ _ (omega (arith, is .names .few)) (omega arith) (omega (arith, is .names .few))) in
-      let others : Fine (c .heads .«clear_names») = rw (h .clearNames) (good-number _ _ 0 (omega (arith, is .names .few))) in
+      let others : Fine (headsFrom (c .heads) .clearNames) = rw (h .clearNames) (good-number _ _ 0 (omega (arith, is .names .few))) in
       record { each = (clear, (keep, (others, tt))) }
 
   body-good : (i : ℕ) → i < length rows → Fine (bodyRun c i)
@@ -182,18 +182,18 @@ module _ {x : List ℕ} {v : View} {p : Defined} (sheet : List ℕ) (r : Accepte
         is-long is,
       ))
 
-  block-good : AllGood (length x) (length sheet) (block (c .heads))
+  block-good : AllGood (length x) (length sheet) (block (headsFrom (c .heads)))
   block-good =
-      let h : HeadsMatch v p (c .heads) = m .heads in
+      let h : HeadsMatch v p (headsFrom (c .heads)) = m .heads in
       rw (h .copyNames, h .clearBlock, h .word24, h .word32)
       (good-move (p .namesMove) (v .layout .namelist) (namesEnd v) (dataEnd p) (nameWords v) (8 * p .segments) 24 (p .segments) (omega arith)
       (omega (arith, is .names .few, is .blocks .namelistHigh, is-long is)) (omega (arith, is .names .few, r .plan .twiceSegments))
       (omega (arith, is .front .low))
       (λ e. omega (arith, taken (p .namesMove) (dataEnd p + 64 * p .segments) (dataEnd p) e, positions p, r .fits, is-long is)))
 
-  slots-good : AllGood (length x) (length sheet) (slots (c .heads))
+  slots-good : AllGood (length x) (length sheet) (slots (headsFrom (c .heads)))
   slots-good =
-      let h : HeadsMatch v p (c .heads) = m .heads in
+      let h : HeadsMatch v p (headsFrom (c .heads)) = m .heads in
       let count : ℕ = length (v .entries) in
       let place : namesDone p + 8 * (4 * count) ≡ namesDone p + 32 * count = omega arith in
       let left : 4 * p .slots - 4 * count ≡ 4 * (p .slots - count) = omega arith in

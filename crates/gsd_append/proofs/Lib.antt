@@ -9,6 +9,7 @@ pub mod GoodRuns
 pub mod Appends
 -- the plan that the code makes matches
 pub mod Growing
+pub mod Laying
 pub mod SitesMatch
 pub mod Filling
 pub mod RowIds

@@ -38,7 +38,6 @@ use Rattle.gsd_read.specs.declared.survey.Survey.{Survey}
 use Rattle.gsd_read.specs.NameLists.{namesIn}
 use Rattle.gsd_read.specs.Surveys.{Surveyed}
 use Rattle.gsd_read.proofs.Surveys.{kept-names, many-names as survey-many}
-use Rattle.gsd_runs.specs.declared.plan.Heads.{Heads}
 use Rattle.gsd_runs.specs.declared.plan.Plan.{Plan}
 use Rattle.gsd_append.specs.declared.sites.Sites.{Sites}
 use Rattle.gsd_append.specs.declared.fill.BodyPlaces.{BodyPlaces}
@@ -47,7 +46,7 @@ use Rattle.gsd_append.specs.declared.fill.EntryNumbers.{EntryNumbers}
 use Rattle.gsd_append.specs.declared.ids.Ids.{Ids}
 use Rattle.gsd_append.specs.declared.planner.Seen.{Seen}
 use Rattle.gsd_append.specs.declared.planner.Planning.{Planning}
-use Rattle.gsd_runs.specs.Runs.{half, planFrom}
+use Rattle.gsd_runs.specs.Runs.{Heads, headsFrom, half, planFrom}
 use Rattle.gsd_append.specs.Order.{Sorted}
 use Rattle.gsd_append.specs.RowIds.{RowNamed, IdsFound}
 use Rattle.gsd_sheet.specs.Rows.{Located}
@@ -328,7 +327,7 @@ module _ (x sheet : List ℕ) (s : Seen) (see : Sees x s) (names bodies : List �
                 index = omega arith;
               }
 
-          module _ (h : Heads) (c : Plan) (q : Joined sheet names bodies (ids .rows) order count (ids .fresh) s sites h b c) where
+          module _ (h : List ℕ) (c : Plan) (q : Joined sheet names bodies (ids .rows) order count (ids .fresh) s sites h b c) where
             data-place : (i : ℕ) → i < length rs → getD (b .to) i 0 ≡ p .start + bodyOffset rs i
             data-place i l =
                 placed .to .at i (omega (arith, count-is))
@@ -380,12 +379,12 @@ module _ (x sheet : List ℕ) (s : Seen) (see : Sees x s) (names bodies : List �
                   location = q .newEntries .location .at k n ∙ data-place row r;
                 })
 
-            pub matched : h ≡ headsOf (clearsOf (s .layout) (s .entries) (s .end)) (nameBlockOf (s .layout) (s .end) sites) (indexBlockOf (s .layout) (s .entries) sites)
+            pub matched : headsFrom h ≡ headsOf (clearsOf (s .layout) (s .entries) (s .end)) (nameBlockOf (s .layout) (s .end) sites) (indexBlockOf (s .layout) (s .entries) sites)
                 → Matches v sheet p c
             matched e = record {
               rows = q .rows ∙ count-is;
               fresh = q .fresh ∙ sym fresh-are ∙ sym (ap length (plan .fresh));
-              heads = subst (HeadsMatch v p) (sym (q .heads)) (heads-are h e);
+              heads = subst (λ l. HeadsMatch v p (headsFrom l)) (sym (q .heads)) (heads-are (headsFrom h) e);
               bodies = bodies-match;
               names = names-match;
               slot = q .slot ∙ λ i. index-block i + 32 * see .entries i;
@@ -406,7 +405,7 @@ module _ {sheet names bodies which order : List ℕ} {count new : ℕ} {v : Seen
   pub index-small : (index : ℕ) → index ≡ cond (s .«index_moves») (s .names) (v .layout .index) → index + 32 * v .entries < 4611686018427387904
   index-small index e = omega (arith, cond-below (s .«index_moves») (s .names) (v .layout .index) 1152921504606846976 (j .block) (omega (arith, j .index)), j .index)
 
-pub joined : (sheet names bodies which order : List ℕ) (count new : ℕ) (v : Seen) (s : Sites) (h : Heads) (b : BodyPlaces) (block index : ℕ) (found : NamePlaces)
+pub joined : (sheet names bodies which order : List ℕ) (count new : ℕ) (v : Seen) (s : Sites) (h : List ℕ) (b : BodyPlaces) (block index : ℕ) (found : NamePlaces)
     (numbers : EntryNumbers) → block ≡ cond (s .«names_move») (s .body) (v .layout .namelist) → index ≡ cond (s .«index_moves») (s .names) (v .layout .index) →
     NamesPlaced names bodies which new (block + (v .end - v .layout .namelist)) found → EntriesFilled sheet order (b .to) count numbers →
     Joined sheet names bodies which order count new v s h b

@@ -23,10 +23,9 @@ use Rattle.gsd_stores.proofs.Valid.{Ready as Accepted}
 use Rattle.gsd_stores.proofs.Moments.{ready-good}
 use Rattle.gsd_stores.proofs.Clear.{store-data}
 use Rattle.gsd_stores.proofs.Whole.{names-fit, data-fits, room-before, room-roomy, room-names, block-even}
-use Rattle.gsd_runs.specs.declared.plan.Heads.{Heads}
 use Rattle.gsd_runs.specs.declared.plan.Plan.{Plan}
 use Rattle.gsd_runs.specs.Exec.{steps, storesOf}
-use Rattle.gsd_runs.specs.Runs.{bodyRun, nameRun, entryRun, tab, block, slots, runsOf}
+use Rattle.gsd_runs.specs.Runs.{Heads, bodyRun, nameRun, entryRun, tab, block, slots, runsOf}
 use Rattle.gsd_append.specs.Matches.{nameWords, HeadsMatch, NameMatch, Matches}
 use Rattle.gsd_append.proofs.Octets.{text-octets}
 use Rattle.gsd_append.proofs.Makes.{Makes, AnyImage, Always, makes-from, _⨾_}

@@ -17,9 +17,8 @@ use Rattle.gsd_stores.specs.Demand3.{noRow}
 use Rattle.gsd_stores.proofs.Sheet.{nameAt, bodyAt}
 use Rattle.gsd_stores.proofs.Rows.{bodyOffset}
 use Rattle.gsd_runs.specs.declared.run.Run.{Run}
-use Rattle.gsd_runs.specs.declared.plan.Heads.{Heads}
 use Rattle.gsd_runs.specs.declared.plan.Plan.{Plan}
-use Rattle.gsd_runs.specs.Runs.{number, none}
+use Rattle.gsd_runs.specs.Runs.{Heads, headsFrom, number, none}
 
 -- n words copied within the image, those behind `until` as zeros
 abbrev pub copied : ℕ → ℕ → ℕ → ℕ → Run
@@ -40,17 +39,17 @@ abbrev pub nameWords : View → ℕ
 nameWords v = (length (flat (v .names)) + 7) / 8
 
 pub record HeadsMatch (v : View) (p : Defined) (h : Heads) : Type 0 where
-  pub clearIndex : h .«clear_index» ≡ number (entriesEnd v) (4 * (v .layout .slots - length (v .entries))) 0
-  pub keepNames : h .«keep_names» ≡ copied (endWord v) (min 1 (wordsBehind v)) (endWord v) (namesEnd v)
-  pub clearNames : h .«clear_names» ≡ number (endWord v + 8 * min 1 (wordsBehind v)) (wordsBehind v - 1) 0
+  pub clearIndex : h .clearIndex ≡ number (entriesEnd v) (4 * (v .layout .slots - length (v .entries))) 0
+  pub keepNames : h .keepNames ≡ copied (endWord v) (min 1 (wordsBehind v)) (endWord v) (namesEnd v)
+  pub clearNames : h .clearNames ≡ number (endWord v + 8 * min 1 (wordsBehind v)) (wordsBehind v - 1) 0
   -- a new name block
-  pub copyNames : h .«copy_names» ≡ ifMoved (p .namesMove) (copied (dataEnd p) (nameWords v) (v .layout .namelist) (namesEnd v))
-  pub clearBlock : h .«clear_block» ≡ ifMoved (p .namesMove) (number (dataEnd p + 8 * nameWords v) (8 * p .segments - nameWords v) 0)
+  pub copyNames : h .copyNames ≡ ifMoved (p .namesMove) (copied (dataEnd p) (nameWords v) (v .layout .namelist) (namesEnd v))
+  pub clearBlock : h .clearBlock ≡ ifMoved (p .namesMove) (number (dataEnd p + 8 * nameWords v) (8 * p .segments - nameWords v) 0)
   pub word24 : h .word24 ≡ ifMoved (p .namesMove) (number 24 1 (dataEnd p))
   pub word32 : h .word32 ≡ ifMoved (p .namesMove) (number 32 1 (p .segments))
   -- a new index block
-  pub copyEntries : h .«copy_entries» ≡ ifMoved (p .indexMoves) (copied (namesDone p) (4 * length (v .entries)) (v .layout .index) (entriesEnd v))
-  pub clearSlots : h .«clear_slots»
+  pub copyEntries : h .copyEntries ≡ ifMoved (p .indexMoves) (copied (namesDone p) (4 * length (v .entries)) (v .layout .index) (entriesEnd v))
+  pub clearSlots : h .clearSlots
       ≡ ifMoved (p .indexMoves) (number (namesDone p + 32 * length (v .entries)) (4 * (p .slots - length (v .entries))) 0)
   pub word8 : h .word8 ≡ ifMoved (p .indexMoves) (number 8 1 (namesDone p))
   pub word16 : h .word16 ≡ ifMoved (p .indexMoves) (number 16 1 (p .slots))
@@ -79,7 +78,7 @@ pub record EntryMatch (c : Plan) (s : ℕ) (e : Entry) : Type 0 where
 pub record Matches (v : View) (sheet : List ℕ) (p : Defined) (c : Plan) : Type 0 where
   pub rows : c .rows ≡ length (rowsOf sheet)
   pub fresh : c .fresh ≡ length (p .fresh)
-  pub heads : HeadsMatch v p (c .heads)
+  pub heads : HeadsMatch v p (headsFrom (c .heads))
   pub bodies : (i : ℕ) → i < length (rowsOf sheet) → BodyMatch sheet p c i
   pub names : (j : ℕ) → j < length (p .fresh) → NameMatch v sheet p c j
   pub slot : c .slot ≡ indexBlock v p + 32 * length (v .entries)

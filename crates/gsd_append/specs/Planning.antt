@@ -12,7 +12,6 @@ use Rattle.gsd_stores.specs.View.{viewOf, indexEnd, namelistEnd, namesEnd}
 use Rattle.gsd_stores.specs.Sheet.{rowCount, rowsOf, sheetTest}
 use Rattle.gsd_stores.specs.Plan.{Plan as Defined, planOf}
 use Rattle.gsd_stores.proofs.Sheet.{rowAt}
-use Rattle.gsd_runs.specs.declared.plan.Heads.{Heads}
 use Rattle.gsd_runs.specs.declared.plan.Plan.{Plan}
 use Rattle.gsd_append.specs.declared.sites.Sites.{Sites}
 use Rattle.gsd_append.specs.declared.fill.BodyPlaces.{BodyPlaces}
@@ -81,7 +80,7 @@ pub record Joinable (sheet names bodies which order : List ℕ) (count new : ℕ
   pub index : v .layout .index + 32 * v .entries ≤ greatestLength
 
 -- a plan joined from its parts
-pub record Joined (sheet names bodies which order : List ℕ) (count new : ℕ) (v : Seen) (s : Sites) (h : Heads) (b : BodyPlaces) (c : Plan) : Type 0 where
+pub record Joined (sheet names bodies which order : List ℕ) (count new : ℕ) (v : Seen) (s : Sites) (h : List ℕ) (b : BodyPlaces) (c : Plan) : Type 0 where
   pub rows : c .rows ≡ count
   pub fresh : c .fresh ≡ new
   pub heads : c .heads ≡ h

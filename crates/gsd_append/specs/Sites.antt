@@ -1,15 +1,17 @@
 -- Where an append's parts go, as numbers: the blocks after the data, and the runs that are there once.
 use Prim.Native.Nat.{ℕ, _+_, _*_, _-_, _/_, min}
 use mathlib.Core.Bool.{Bool, cond}
+use mathlib.Core.List.{List}
+use lib.ListN.{set}
 use lib.Dec.{ltb}
 use Rattle.gsd_format.specs.declared.Layout.{Layout}
 use Rattle.gsd_stores.specs.View.{namelistEnd}
 use Rattle.gsd_stores.specs.Plan.{grown}
-use Rattle.gsd_runs.specs.declared.plan.Heads.{Heads}
+use Rattle.gsd_runs.specs.declared.run.Run.{Run}
 use Rattle.gsd_append.specs.declared.sites.Sites.{Sites}
 use Rattle.gsd_append.specs.declared.sites.Block.{Block}
 use Rattle.gsd_append.specs.declared.sites.Clears.{Clears}
-use Rattle.gsd_runs.specs.Runs.{number}
+use Rattle.gsd_runs.specs.Runs.{Heads, number}
 use Rattle.gsd_append.specs.Matches.{copied, ifMoved}
 
 -- the places behind the data, which end at `end`, when the names need so many bytes and the entries so many slots
@@ -55,17 +57,28 @@ nameBlockOf l end s = blockOf (s .«names_move») (s .body) ((end - l .namelist 
 abbrev pub indexBlockOf : Layout → ℕ → Sites → Block
 indexBlockOf l entries s = blockOf (s .«index_moves») (s .names) (4 * entries) (4 * s .slots) (l .index) (l .index + 32 * entries) 8 (s .slots)
 
+-- a run as the k-th six numbers of a list; the clears; a block's runs from the k-th on
+abbrev pub putRun : List ℕ → ℕ → Run → List ℕ
+putRun l k r =
+    set (set (set (set (set (set l (6 * k) (r .kind)) (6 * k + 1) (r .to)) (6 * k + 2) (r .words)) (6 * k + 3) (r .from)) (6 * k + 4) (r .until)) (6 * k + 5) (r .value)
+
+abbrev pub putClears : List ℕ → Clears → List ℕ
+putClears l c = putRun (putRun (putRun l 0 (c .index)) 1 (c .keep)) 2 (c .names)
+
+abbrev pub putBlock : List ℕ → ℕ → Block → List ℕ
+putBlock l k b = putRun (putRun (putRun (putRun l k (b .copy)) (k + 1) (b .clear)) (k + 2) (b .place)) (k + 3) (b .count)
+
 abbrev pub headsOf : Clears → Block → Block → Heads
 headsOf c names index = record {
-  «clear_index» = c .index;
-  «keep_names» = c .keep;
-  «clear_names» = c .names;
-  «copy_names» = names .copy;
-  «clear_block» = names .clear;
+  clearIndex = c .index;
+  keepNames = c .keep;
+  clearNames = c .names;
+  copyNames = names .copy;
+  clearBlock = names .clear;
   word24 = names .place;
   word32 = names .count;
-  «copy_entries» = index .copy;
-  «clear_slots» = index .clear;
+  copyEntries = index .copy;
+  clearSlots = index .clear;
   word8 = index .place;
   word16 = index .count;
 }

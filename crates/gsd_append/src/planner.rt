@@ -11,13 +11,11 @@ use crate::sites::clear_runs;
 use crate::sites::end_of_use;
 use crate::sites::find_sites;
 use crate::sites::index_block;
-use crate::sites::join_heads;
+use crate::sites::lay_heads;
 use crate::sites::name_block;
 use gsd_format::Layout;
 use gsd_read::survey_of;
-use gsd_runs::Heads;
 use gsd_runs::Plan;
-use gsd_runs::Run;
 use gsd_sheet::sheet_rows;
 ghost use mathlib.Core.Path.{_≡_};
 ghost use mathlib.Core.Bool.{cond};
@@ -31,6 +29,7 @@ ghost use Rattle.gsd_stores.specs.Sheet.{rowCount, sheetTest};
 ghost use Rattle.gsd_stores.specs.Plan.{finalPosition};
 ghost use Rattle.gsd_stores.specs.Append.{planTest, appendTest};
 ghost use Rattle.gsd_read.specs.NameLists.{namesIn, Spans};
+ghost use Rattle.gsd_runs.specs.Runs.{headsFrom};
 ghost use Rattle.gsd_sheet.specs.Rows.{Located};
 ghost use Rattle.gsd_append.specs.Sites.{clearsOf, nameBlockOf, indexBlockOf, headsOf};
 ghost use Rattle.gsd_append.specs.Planning.{planned, Sees, Asked, Sited, Joinable, Joined, Plans};
@@ -50,44 +49,15 @@ pub struct Planning {
     pub plan: Plan,
 }
 
-fn no_run() -> Run {
-    Run {
-        kind: 2,
-        to: 0,
-        words: 0,
-        from: 0,
-        until: 0,
-        value: 0,
-    }
-}
-
-fn no_heads() -> Heads {
-    let none = no_run();
-    Heads {
-        clear_index: none,
-        keep_names: none,
-        clear_names: none,
-        copy_names: none,
-        clear_block: none,
-        word24: none,
-        word32: none,
-        copy_entries: none,
-        clear_slots: none,
-        word8: none,
-        word16: none,
-    }
-}
-
 fn refused(number: u64) -> Planning
     ensures { λ r. ⌜ r .number ≡ number ⌝ }
 {
-    let heads = no_heads();
     Planning {
         number,
         plan: Plan {
             rows: 0,
             fresh: 0,
-            heads,
+            heads: [0; 66],
             body_to: [0; 64],
             body_from: [0; 64],
             body_until: [0; 64],
@@ -103,14 +73,14 @@ fn refused(number: u64) -> Planning
     }
 }
 
-fn heads_for(l: Layout, entries: usize, end: usize, s: Sites) -> Heads
+fn heads_for(l: Layout, entries: usize, end: usize, s: Sites) -> [u64; 66]
     requires { ⌜ Sited l entries end s ⌝ }
-    ensures { λ r. ⌜ r ≡ headsOf (clearsOf l entries end) (nameBlockOf l end s) (indexBlockOf l entries s) ⌝ }
+    ensures { λ r. ⌜ headsFrom r ≡ headsOf (clearsOf l entries end) (nameBlockOf l end s) (indexBlockOf l entries s) ⌝ }
 {
     let clears = clear_runs(l, entries, end);
     let names = name_block(l, end, s);
     let index = index_block(l, entries, s);
-    join_heads(clears, names, index)
+    lay_heads(clears, names, index)
 }
 
 fn chosen(moves: bool, new: u64, old: u64) -> u64
@@ -129,7 +99,7 @@ fn join<'a>(
     fresh: usize,
     v: Seen,
     s: Sites,
-    heads: Heads,
+    heads: [u64; 66],
     b: BodyPlaces,
 ) -> Plan
     requires { ⌜ Joinable (now sheet) (now names) (now bodies) (now rows) (now order) count fresh v s ⌝ }
@@ -252,10 +222,11 @@ pub(crate) fn plan_append(image: &[u8], sheet: &[u8]) -> Planning
     if s.number != 0 {
         return refused(s.number);
     }
-    if s.layout.index % 8 != 0 {
+    let layout = s.layout;
+    if layout.index % 8 != 0 {
         return refused(21);
     }
-    if s.layout.namelist % 8 != 0 {
+    if layout.namelist % 8 != 0 {
         return refused(21);
     }
     let rows = sheet_rows(sheet);
@@ -263,7 +234,7 @@ pub(crate) fn plan_append(image: &[u8], sheet: &[u8]) -> Planning
         return refused(rows.number);
     }
     let v = Seen {
-        layout: s.layout,
+        layout,
         entries: s.entries,
         frames: s.frames,
         end: s.names.end,

@@ -6,11 +6,10 @@ ghost use Rattle.gsd_format.specs.Bytes.{roundUp};
 ghost use Rattle.gsd_format.specs.Header.{headerSize, greatestLength};
 ghost use Rattle.gsd_stores.specs.View.{alignment, indexEnd, namelistEnd};
 ghost use Rattle.gsd_stores.specs.Plan.{grown};
-ghost use Rattle.gsd_runs.specs.Runs.{number};
+ghost use Rattle.gsd_runs.specs.Runs.{number, headsFrom};
 ghost use Rattle.gsd_append.specs.Matches.{copied};
-ghost use Rattle.gsd_append.specs.Sites.{sitesOf, blockOf, clearsOf, nameBlockOf, indexBlockOf, headsOf};
+ghost use Rattle.gsd_append.specs.Sites.{sitesOf, blockOf, clearsOf, nameBlockOf, indexBlockOf, putRun, putClears, putBlock, headsOf};
 use gsd_format::Layout;
-use gsd_runs::Heads;
 use gsd_runs::Run;
 
 fn greater(a: u64, b: u64) -> u64
@@ -225,31 +224,45 @@ pub(crate) fn index_block(l: Layout, entries: usize, s: Sites) -> Block
     )
 }
 
-pub(crate) fn join_heads(c: Clears, names: Block, index: Block) -> Heads
-    ensures { λ r. ⌜ r ≡ headsOf c names index ⌝ }
+// The runs that are there once go into one array, six numbers to a run: the clears, then the two blocks.
+
+fn put_run(heads: &mut [u64; 66], k: usize, run: Run)
+    requires { ⌜ k < 11 ⌝ }
+    ensures { λ _. ⌜ now (heads .exit) ≡ putRun (now (heads .entry)) k run ⌝ }
 {
-    let clear_index = c.index;
-    let keep_names = c.keep;
-    let clear_names = c.names;
-    let copy_names = names.copy;
-    let clear_block = names.clear;
-    let word24 = names.place;
-    let word32 = names.count;
-    let copy_entries = index.copy;
-    let clear_slots = index.clear;
-    let word8 = index.place;
-    let word16 = index.count;
-    Heads {
-        clear_index,
-        keep_names,
-        clear_names,
-        copy_names,
-        clear_block,
-        word24,
-        word32,
-        copy_entries,
-        clear_slots,
-        word8,
-        word16,
-    }
+    let i = 6 * k;
+    heads[i] = run.kind;
+    heads[i + 1] = run.to as u64;
+    heads[i + 2] = run.words as u64;
+    heads[i + 3] = run.from as u64;
+    heads[i + 4] = run.until as u64;
+    heads[i + 5] = run.value;
+}
+
+fn put_clears(heads: &mut [u64; 66], c: Clears)
+    ensures { λ _. ⌜ now (heads .exit) ≡ putClears (now (heads .entry)) c ⌝ }
+{
+    put_run(heads, 0, c.index);
+    put_run(heads, 1, c.keep);
+    put_run(heads, 2, c.names);
+}
+
+fn put_block(heads: &mut [u64; 66], k: usize, b: Block)
+    requires { ⌜ k ≤ 7 ⌝ }
+    ensures { λ _. ⌜ now (heads .exit) ≡ putBlock (now (heads .entry)) k b ⌝ }
+{
+    put_run(heads, k, b.copy);
+    put_run(heads, k + 1, b.clear);
+    put_run(heads, k + 2, b.place);
+    put_run(heads, k + 3, b.count);
+}
+
+pub(crate) fn lay_heads(c: Clears, names: Block, index: Block) -> [u64; 66]
+    ensures { λ r. ⌜ headsFrom r ≡ headsOf c names index ⌝ }
+{
+    let mut heads = [0u64; 66];
+    put_clears(&mut heads, c);
+    put_block(&mut heads, 3, names);
+    put_block(&mut heads, 7, index);
+    heads
 }

@@ -9,7 +9,7 @@ use lib.Seq.{take-suc, take-append-le, take-all}
 use Rattle.gsd_runs.specs.declared.run.Run.{Run}
 use Rattle.gsd_runs.specs.declared.plan.Plan.{Plan}
 use Rattle.gsd_runs.specs.Exec.{steps}
-use Rattle.gsd_runs.specs.Runs.{none, bodyRun, nameRun, entryRun, tab, clears, block, slots, runsOf}
+use Rattle.gsd_runs.specs.Runs.{none, bodyRun, nameRun, entryRun, tab, clears, block, slots, runsOf, headsFrom}
 use Rattle.gsd_runs.proofs.Steps.{stepsFrom-length, steps-append}
 use Rattle.gsd_runs.proofs.Runs.{tab-length}
 
@@ -39,7 +39,7 @@ count-ones f i (suc n) h = omega (arith, count-cons (f i) (tab f (suc i) n), h i
 module _ (p : Plan) where
   -- the runs before the entries
   abbrev front : List Run
-  front = clears (p .heads) ++ tab (bodyRun p) 0 (p .rows) ++ block (p .heads) ++ tab (nameRun p) 0 (p .fresh) ++ slots (p .heads)
+  front = clears (headsFrom (p .heads)) ++ tab (bodyRun p) 0 (p .rows) ++ block (headsFrom (p .heads)) ++ tab (nameRun p) 0 (p .fresh) ++ slots (headsFrom (p .heads))
 
   runs-front : runsOf p ≡ front ++ tab (entryRun p) 0 (4 * p .rows)
   unfolding runsOf

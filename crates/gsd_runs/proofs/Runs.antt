@@ -7,10 +7,9 @@ use native.Mathlib.Omega.{arith}
 use lib.ListN.{length, getD, length-append, List·getD-append}
 use lib.Seq.{getD-append-add}
 use Rattle.gsd_runs.specs.declared.run.Run.{Run}
-use Rattle.gsd_runs.specs.declared.plan.Heads.{Heads}
 use Rattle.gsd_runs.specs.declared.plan.Plan.{Plan}
 use Rattle.gsd_runs.specs.Exec.{Good}
-use Rattle.gsd_runs.specs.Runs.{none, bodyRun, nameRun, ofFour, entryRun, tab, clears, block, slots, runsOf, headAt, headsFrom, planFrom, half, Ready}
+use Rattle.gsd_runs.specs.Runs.{none, bodyRun, nameRun, ofFour, entryRun, tab, clears, block, slots, runsOf, headAt, headsFrom, half, Ready}
 
 -- Tables
 
@@ -53,18 +52,18 @@ abbrev from-entries : Plan → List Run
 from-entries p = tab (entryRun p) 0 (4 * p .rows)
 
 abbrev from-slots : Plan → List Run
-from-slots p = slots (p .heads) ++ from-entries p
+from-slots p = slots (headsFrom (p .heads)) ++ from-entries p
 
 abbrev from-names : Plan → List Run
 from-names p = tab (nameRun p) 0 (p .fresh) ++ from-slots p
 
 abbrev from-block : Plan → List Run
-from-block p = block (p .heads) ++ from-names p
+from-block p = block (headsFrom (p .heads)) ++ from-names p
 
 abbrev from-bodies : Plan → List Run
 from-bodies p = tab (bodyRun p) 0 (p .rows) ++ from-block p
 
-runs-are : (p : Plan) → runsOf p ≡ clears (p .heads) ++ from-bodies p
+runs-are : (p : Plan) → runsOf p ≡ clears (headsFrom (p .heads)) ++ from-bodies p
 unfolding runsOf
 runs-are p = simp append-assoc
 
@@ -81,12 +80,12 @@ runs-over p r h = rw runs-length h
 
 -- the r-th run, by the number that is left of r after the groups before its own
 module _ (p : Plan) (r : ℕ) where
-  pub at-clears : r < 3 → getD (runsOf p) r none ≡ getD (clears (p .heads)) r none
-  at-clears h = rw (runs-are p) (within (clears (p .heads)) (from-bodies p) 3 r refl h)
+  pub at-clears : r < 3 → getD (runsOf p) r none ≡ getD (clears (headsFrom (p .heads))) r none
+  at-clears h = rw (runs-are p) (within (clears (headsFrom (p .heads))) (from-bodies p) 3 r refl h)
 
   module _ (a : 3 ≤ r) where
     to-bodies : getD (runsOf p) r none ≡ getD (from-bodies p) (r - 3) none
-    to-bodies = rw (runs-are p) (behind (clears (p .heads)) (from-bodies p) 3 r refl a)
+    to-bodies = rw (runs-are p) (behind (clears (headsFrom (p .heads))) (from-bodies p) 3 r refl a)
 
     pub at-body : r - 3 < p .rows → getD (runsOf p) r none ≡ bodyRun p (r - 3)
     at-body h = to-bodies ∙ within-tab (bodyRun p) (p .rows) (from-block p) (r - 3) h
@@ -95,12 +94,12 @@ module _ (p : Plan) (r : ℕ) where
       to-block : getD (runsOf p) r none ≡ getD (from-block p) (r - 3 - p .rows) none
       to-block = to-bodies ∙ behind (tab (bodyRun p) 0 (p .rows)) (from-block p) (p .rows) (r - 3) (tab-length (bodyRun p) 0 (p .rows)) b
 
-      pub at-block : r - 3 - p .rows < 4 → getD (runsOf p) r none ≡ getD (block (p .heads)) (r - 3 - p .rows) none
-      at-block h = to-block ∙ within (block (p .heads)) (from-names p) 4 (r - 3 - p .rows) refl h
+      pub at-block : r - 3 - p .rows < 4 → getD (runsOf p) r none ≡ getD (block (headsFrom (p .heads))) (r - 3 - p .rows) none
+      at-block h = to-block ∙ within (block (headsFrom (p .heads))) (from-names p) 4 (r - 3 - p .rows) refl h
 
       module _ (c : 4 ≤ r - 3 - p .rows) where
         to-names : getD (runsOf p) r none ≡ getD (from-names p) (r - 3 - p .rows - 4) none
-        to-names = to-block ∙ behind (block (p .heads)) (from-names p) 4 (r - 3 - p .rows) refl c
+        to-names = to-block ∙ behind (block (headsFrom (p .heads))) (from-names p) 4 (r - 3 - p .rows) refl c
 
         pub at-name : r - 3 - p .rows - 4 < p .fresh → getD (runsOf p) r none ≡ nameRun p (r - 3 - p .rows - 4)
         at-name h = to-names ∙ within-tab (nameRun p) (p .fresh) (from-slots p) (r - 3 - p .rows - 4) h
@@ -109,24 +108,26 @@ module _ (p : Plan) (r : ℕ) where
           to-slots : getD (runsOf p) r none ≡ getD (from-slots p) (r - 3 - p .rows - 4 - p .fresh) none
           to-slots = to-names ∙ behind (tab (nameRun p) 0 (p .fresh)) (from-slots p) (p .fresh) (r - 3 - p .rows - 4) (tab-length (nameRun p) 0 (p .fresh)) d
 
-          pub at-slots : r - 3 - p .rows - 4 - p .fresh < 4 → getD (runsOf p) r none ≡ getD (slots (p .heads)) (r - 3 - p .rows - 4 - p .fresh) none
-          at-slots h = to-slots ∙ within (slots (p .heads)) (from-entries p) 4 (r - 3 - p .rows - 4 - p .fresh) refl h
+          pub at-slots : r - 3 - p .rows - 4 - p .fresh < 4 → getD (runsOf p) r none ≡ getD (slots (headsFrom (p .heads))) (r - 3 - p .rows - 4 - p .fresh) none
+          at-slots h = to-slots ∙ within (slots (headsFrom (p .heads))) (from-entries p) 4 (r - 3 - p .rows - 4 - p .fresh) refl h
 
           pub at-entry : 4 ≤ r - 3 - p .rows - 4 - p .fresh → r - 3 - p .rows - 4 - p .fresh - 4 < 4 * p .rows
               → getD (runsOf p) r none ≡ entryRun p (r - 3 - p .rows - 4 - p .fresh - 4)
           at-entry e h =
-              to-slots ∙ behind (slots (p .heads)) (from-entries p) 4 (r - 3 - p .rows - 4 - p .fresh) refl e
+              to-slots ∙ behind (slots (headsFrom (p .heads))) (from-entries p) 4 (r - 3 - p .rows - 4 - p .fresh) refl e
               ∙ tab-first (entryRun p) (4 * p .rows) (r - 3 - p .rows - 4 - p .fresh - 4) h
 
 -- the runs that are there once, as they are laid in one list
 module _ (l : List ℕ) where
   pub clears-at : (i : ℕ) → i < 3 → headAt l i ≡ getD (clears (headsFrom l)) i none
+  unfolding headsFrom
   clears-at zero h = refl
   clears-at (suc zero) h = refl
   clears-at (suc (suc zero)) h = refl
   clears-at (suc (suc (suc i))) h = absurd (omega arith)
 
   pub block-at : (i : ℕ) → i < 4 → headAt l (3 + i) ≡ getD (block (headsFrom l)) i none
+  unfolding headsFrom
   block-at zero h = refl
   block-at (suc zero) h = refl
   block-at (suc (suc zero)) h = refl
@@ -134,6 +135,7 @@ module _ (l : List ℕ) where
   block-at (suc (suc (suc (suc i)))) h = absurd (omega arith)
 
   pub slots-at : (i : ℕ) → i < 4 → headAt l (7 + i) ≡ getD (slots (headsFrom l)) i none
+  unfolding headsFrom
   slots-at zero h = refl
   slots-at (suc zero) h = refl
   slots-at (suc (suc zero)) h = refl
@@ -167,13 +169,5 @@ module _ (n m : ℕ) (p : Plan) (x : Run) (g : Good n m x) where
   unfolding entryRun
   entry-fits k e = let h : Good n m (entryRun p k) = rw e at g in omega (arith, h .room)
 
--- a plan as it is lent, with its laid runs
-abbrev lent : Plan → Heads → Plan
-lent p h = planFrom (p .rows) (p .fresh) h (p .«body_to») (p .«body_from») (p .«body_until») (p .«name_at») (p .«name_from») (p .«name_until») (p .slot) (p .frame) (p .n) (p .meta) (p .location)
-
-pub lent-run : (p : Plan) (h : Heads) (r : ℕ) → h ≡ p .heads → getD (runsOf (lent p h)) r none ≡ getD (runsOf p) r none
-lent-run p h r e = rw e
-
-pub lent-good : (n m : ℕ) (p : Plan) (h : Heads) (r : ℕ) → n ≤ half → m ≤ half → Ready n m p → r < 11 + p .fresh + 5 * p .rows → h ≡ p .heads
-    → Good half half (getD (runsOf (lent p h)) r none)
-lent-good n m p h r a b ready l e = rw e (good-more n m half half (getD (runsOf p) r none) a b (ready .good r (runs-inside p r l)))
+pub good-half : (n m : ℕ) (p : Plan) (r : ℕ) → n ≤ half → m ≤ half → Ready n m p → r < 11 + p .fresh + 5 * p .rows → Good half half (getD (runsOf p) r none)
+good-half n m p r a b ready l = good-more n m half half (getD (runsOf p) r none) a b (ready .good r (runs-inside p r l))

@@ -3,7 +3,6 @@ use Prim.Native.Nat.{ℕ, zero, suc, _+_, _*_, _-_, _/_, _%_, _≤_, _<_}
 use mathlib.Core.List.{List, [], _∷_, _++_}
 use lib.ListN.{getD, length}
 use Rattle.gsd_runs.specs.declared.run.Run.{Run}
-use Rattle.gsd_runs.specs.declared.plan.Heads.{Heads}
 use Rattle.gsd_runs.specs.declared.plan.Plan.{Plan}
 use Rattle.gsd_runs.specs.Exec.{Good, steps}
 
@@ -50,26 +49,21 @@ unfoldable pub tab : (ℕ → Run) → ℕ → ℕ → List Run
 tab f i zero = []
 tab f i (suc n) = f i ∷ tab f (suc i) n
 
--- the runs that are there once: the clears; behind the data a new name block; behind the new names a new index block
-abbrev pub clears : Heads → List Run
-clears h = h .«clear_index» ∷ h .«keep_names» ∷ h .«clear_names» ∷ []
+-- The runs that are there once: the clears; behind the data a new name block; behind the new names a new index block
+pub record Heads : Type 0 where
+  pub clearIndex : Run
+  pub keepNames : Run
+  pub clearNames : Run
+  pub copyNames : Run
+  pub clearBlock : Run
+  pub word24 : Run
+  pub word32 : Run
+  pub copyEntries : Run
+  pub clearSlots : Run
+  pub word8 : Run
+  pub word16 : Run
 
-abbrev pub block : Heads → List Run
-block h = h .«copy_names» ∷ h .«clear_block» ∷ h .word24 ∷ h .word32 ∷ []
-
-abbrev pub slots : Heads → List Run
-slots h = h .«copy_entries» ∷ h .«clear_slots» ∷ h .word8 ∷ h .word16 ∷ []
-
-unfoldable pub runsOf : Plan → List Run
-runsOf p =
-    clears (p .heads)
-    ++ tab (bodyRun p) 0 (p .rows)
-    ++ block (p .heads)
-    ++ tab (nameRun p) 0 (p .fresh)
-    ++ slots (p .heads)
-    ++ tab (entryRun p) 0 (4 * p .rows)
-
--- A plan by its parts, as it is lent: the runs that are there once lie in one list, six numbers to a run
+-- they lie in one list, six numbers to a run
 abbrev pub headAt : List ℕ → ℕ → Run
 headAt l k = record {
   kind = getD l (6 * k) 0;
@@ -80,22 +74,41 @@ headAt l k = record {
   value = getD l (6 * k + 5) 0;
 }
 
-abbrev pub headsFrom : List ℕ → Heads
+unfoldable pub headsFrom : List ℕ → Heads
 headsFrom l = record {
-  «clear_index» = headAt l 0;
-  «keep_names» = headAt l 1;
-  «clear_names» = headAt l 2;
-  «copy_names» = headAt l 3;
-  «clear_block» = headAt l 4;
+  clearIndex = headAt l 0;
+  keepNames = headAt l 1;
+  clearNames = headAt l 2;
+  copyNames = headAt l 3;
+  clearBlock = headAt l 4;
   word24 = headAt l 5;
   word32 = headAt l 6;
-  «copy_entries» = headAt l 7;
-  «clear_slots» = headAt l 8;
+  copyEntries = headAt l 7;
+  clearSlots = headAt l 8;
   word8 = headAt l 9;
   word16 = headAt l 10;
 }
 
-abbrev pub planFrom : ℕ → ℕ → Heads → List ℕ → List ℕ → List ℕ → List ℕ → List ℕ → List ℕ → ℕ → ℕ → List ℕ → List ℕ → List ℕ → Plan
+abbrev pub clears : Heads → List Run
+clears h = h .clearIndex ∷ h .keepNames ∷ h .clearNames ∷ []
+
+abbrev pub block : Heads → List Run
+block h = h .copyNames ∷ h .clearBlock ∷ h .word24 ∷ h .word32 ∷ []
+
+abbrev pub slots : Heads → List Run
+slots h = h .copyEntries ∷ h .clearSlots ∷ h .word8 ∷ h .word16 ∷ []
+
+unfoldable pub runsOf : Plan → List Run
+runsOf p =
+    clears (headsFrom (p .heads))
+    ++ tab (bodyRun p) 0 (p .rows)
+    ++ block (headsFrom (p .heads))
+    ++ tab (nameRun p) 0 (p .fresh)
+    ++ slots (headsFrom (p .heads))
+    ++ tab (entryRun p) 0 (4 * p .rows)
+
+-- a plan by its parts, as it is lent
+abbrev pub planFrom : ℕ → ℕ → List ℕ → List ℕ → List ℕ → List ℕ → List ℕ → List ℕ → List ℕ → ℕ → ℕ → List ℕ → List ℕ → List ℕ → Plan
 planFrom rows fresh heads bodyTo bodyFrom bodyUntil nameAt nameFrom nameUntil slot frame n meta location = record {
   rows = rows;
   fresh = fresh;

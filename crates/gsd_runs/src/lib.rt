@@ -4,6 +4,5 @@ mod plan;
 mod run;
 pub mod turn;
 
-pub use plan::Heads;
 pub use plan::Plan;
 pub use run::Run;

@@ -4,32 +4,16 @@ ghost use mathlib.Core.Path.{_≡_};
 ghost use Prim.Native.Nat.{_+_, _-_, _*_, _/_, _%_, _≤_, _<_};
 ghost use lib.ListN.{getD};
 ghost use Rattle.gsd_runs.specs.Exec.{Good};
-ghost use Rattle.gsd_runs.specs.Runs.{none, body, name, ofFour, entry, headAt, headsFrom, planFrom, runsOf, half};
+ghost use Rattle.gsd_runs.specs.Runs.{none, body, name, ofFour, entry, headAt, planFrom, runsOf, half};
 
-// The runs that are there once, in their order; one that is not needed has no words.
-pub struct Heads {
-    pub clear_index: Run,
-    pub keep_names: Run,
-    pub clear_names: Run,
-    // behind the data
-    pub copy_names: Run,
-    pub clear_block: Run,
-    pub word24: Run,
-    pub word32: Run,
-    // behind the new names
-    pub copy_entries: Run,
-    pub clear_slots: Run,
-    pub word8: Run,
-    pub word16: Run,
-}
-
-// Row i's data lie in the sheet from body_from[i] to body_until[i] and go to body_to[i]; the j-th new name lies from
+// `heads` has the eleven runs that are there once, in their order and six numbers to a run; one that is not needed has no
+// words. Row i's data lie in the sheet from body_from[i] to body_until[i] and go to body_to[i]; the j-th new name lies from
 // name_from[j] to name_until[j] and goes to name_at[j]. The new entries go to the slots from `slot` on, one for each row,
 // all of one frame; meta[s] is M + 2^32 * id + 2^48 * type.
 pub struct Plan {
     pub rows: usize,
     pub fresh: usize,
-    pub heads: Heads,
+    pub heads: [u64; 66],
     pub body_to: [usize; 64],
     pub body_from: [usize; 64],
     pub body_until: [usize; 64],
@@ -41,80 +25,6 @@ pub struct Plan {
     pub n: [u64; 64],
     pub meta: [u64; 64],
     pub location: [u64; 64],
-}
-
-// The runs that are there once, in one array that can be lent, six numbers to a run.
-pub(crate) fn laid(heads: Heads) -> [u64; 66]
-    ensures { λ r. ⌜ headsFrom r ≡ heads ⌝ }
-{
-    [
-        heads.clear_index.kind,
-        heads.clear_index.to as u64,
-        heads.clear_index.words as u64,
-        heads.clear_index.from as u64,
-        heads.clear_index.until as u64,
-        heads.clear_index.value,
-        heads.keep_names.kind,
-        heads.keep_names.to as u64,
-        heads.keep_names.words as u64,
-        heads.keep_names.from as u64,
-        heads.keep_names.until as u64,
-        heads.keep_names.value,
-        heads.clear_names.kind,
-        heads.clear_names.to as u64,
-        heads.clear_names.words as u64,
-        heads.clear_names.from as u64,
-        heads.clear_names.until as u64,
-        heads.clear_names.value,
-        heads.copy_names.kind,
-        heads.copy_names.to as u64,
-        heads.copy_names.words as u64,
-        heads.copy_names.from as u64,
-        heads.copy_names.until as u64,
-        heads.copy_names.value,
-        heads.clear_block.kind,
-        heads.clear_block.to as u64,
-        heads.clear_block.words as u64,
-        heads.clear_block.from as u64,
-        heads.clear_block.until as u64,
-        heads.clear_block.value,
-        heads.word24.kind,
-        heads.word24.to as u64,
-        heads.word24.words as u64,
-        heads.word24.from as u64,
-        heads.word24.until as u64,
-        heads.word24.value,
-        heads.word32.kind,
-        heads.word32.to as u64,
-        heads.word32.words as u64,
-        heads.word32.from as u64,
-        heads.word32.until as u64,
-        heads.word32.value,
-        heads.copy_entries.kind,
-        heads.copy_entries.to as u64,
-        heads.copy_entries.words as u64,
-        heads.copy_entries.from as u64,
-        heads.copy_entries.until as u64,
-        heads.copy_entries.value,
-        heads.clear_slots.kind,
-        heads.clear_slots.to as u64,
-        heads.clear_slots.words as u64,
-        heads.clear_slots.from as u64,
-        heads.clear_slots.until as u64,
-        heads.clear_slots.value,
-        heads.word8.kind,
-        heads.word8.to as u64,
-        heads.word8.words as u64,
-        heads.word8.from as u64,
-        heads.word8.until as u64,
-        heads.word8.value,
-        heads.word16.kind,
-        heads.word16.to as u64,
-        heads.word16.words as u64,
-        heads.word16.from as u64,
-        heads.word16.until as u64,
-        heads.word16.value,
-    ]
 }
 
 fn head_at(heads: &[u64; 66], k: usize) -> Run
@@ -227,8 +137,8 @@ pub(crate) fn run_at<'a>(
     r: usize,
 ) -> Run
     requires { ⌜ (rows ≤ 64) × ((fresh ≤ rows) × ((r < 11 + fresh + 5 * rows) ×
-        Good half half (getD (runsOf (planFrom rows fresh (headsFrom (now heads)) (now «body_to») (now «body_from») (now «body_until») (now «name_at») (now «name_from») (now «name_until») slot frame (now n) (now meta) (now location))) r none))) ⌝ }
-    ensures { λ x. ⌜ x ≡ getD (runsOf (planFrom rows fresh (headsFrom (now (heads .entry))) (now («body_to» .entry)) (now («body_from» .entry)) (now («body_until» .entry)) (now («name_at» .entry)) (now («name_from» .entry)) (now («name_until» .entry)) slot frame (now (n .entry)) (now (meta .entry)) (now (location .entry)))) r none ⌝ }
+        Good half half (getD (runsOf (planFrom rows fresh (now heads) (now «body_to») (now «body_from») (now «body_until») (now «name_at») (now «name_from») (now «name_until») slot frame (now n) (now meta) (now location))) r none))) ⌝ }
+    ensures { λ x. ⌜ x ≡ getD (runsOf (planFrom rows fresh (now (heads .entry)) (now («body_to» .entry)) (now («body_from» .entry)) (now («body_until» .entry)) (now («name_at» .entry)) (now («name_from» .entry)) (now («name_until» .entry)) slot frame (now (n .entry)) (now (meta .entry)) (now (location .entry)))) r none ⌝ }
 {
     if r < 3 {
         return head_at(heads, r);

@@ -1,6 +1,5 @@
 // The loop over the runs of a plan.
 use crate::plan::Plan;
-use crate::plan::laid;
 use crate::plan::run_at;
 use crate::run::stores;
 ghost use mathlib.Core.Path.{_≡_};
@@ -30,7 +29,6 @@ pub fn turn(
     ensures { λ t. ⌜ TurnSays (now (sheet .entry)) (now (image .entry)) plan run word limit t (now (image .exit)) ⌝ }
 {
     let count = 11 + plan.fresh + 5 * plan.rows;
-    let heads = laid(plan.heads);
     let mut r = run;
     let mut w = word;
     let mut left = limit;
@@ -38,7 +36,7 @@ pub fn turn(
         let x = run_at(
             plan.rows,
             plan.fresh,
-            &heads,
+            &plan.heads,
             &plan.body_to,
             &plan.body_from,
             &plan.body_until,
@@ -80,14 +78,13 @@ pub fn whole(plan: Plan) -> u64
     ensures { λ r. ⌜ r ≡ length (steps (runsOf plan)) ⌝ }
 {
     let count = 11 + plan.fresh + plan.rows;
-    let heads = laid(plan.heads);
     let mut sum = 4 * plan.rows as u64;
     let mut r = 0;
     while r < count {
         let x = run_at(
             plan.rows,
             plan.fresh,
-            &heads,
+            &plan.heads,
             &plan.body_to,
             &plan.body_from,
             &plan.body_until,

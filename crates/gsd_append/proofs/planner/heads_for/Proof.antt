@@ -17,12 +17,12 @@ index-block-requires : tie.Need-index-block-requires
 index-block-requires c κs = search needs
 
 -- src/planner.rt:113:5
-join-heads-requires : tie.Need-join-heads-requires
-join-heads-requires c κs = search needs
+lay-heads-requires : tie.Need-lay-heads-requires
+lay-heads-requires c κs = search needs
 
 -- src/planner.rt:106:1
 returns : tie.Need-returns
-returns c = c .join-heads .ensures ∙ λ i. headsOf (c .before .before .before .clear-runs .ensures i) (c .before .before .name-block .ensures i) (c .before .index-block .ensures i)
+returns c = c .lay-heads .ensures ∙ λ i. headsOf (c .before .before .before .clear-runs .ensures i) (c .before .before .name-block .ensures i) (c .before .index-block .ensures i)
 
 pub heads-for-spec : {M : Type 1} → statement M
 heads-for-spec =
@@ -31,5 +31,5 @@ heads-for-spec =
     clear-runs-requires
     name-block-requires
     index-block-requires
-    join-heads-requires
+    lay-heads-requires
     returns)

@@ -1,68 +1,67 @@
+-- `gsd_runs::turn::whole` meets its contract: the words of the runs are summed run by run.
 use borrow.Author.Needs.{needs}
 use Prim.Native.Nat.{_+_, _-_, _≤_}
 use mathlib.Core.Path.{_≡_, sym, _∙_, ap}
 use native.Mathlib.Omega.{arith}
-use Rattle.gsd_runs.proofs.Runs.{runs-inside, lent-run, lent-good}
+use Rattle.gsd_runs.proofs.Runs.{runs-inside, good-half}
 use Rattle.gsd_runs.proofs.Count.{counted, counted-none, counted-more, counted-within, counted-all}
 use Rattle.gsd_runs.proofs.turn.whole.Statement.{statement}
 use Rattle.gsd_runs.proofs.turn.whole.Tie as tie
 
 abbrev Inv-loop : tie.InvT-loop
-Inv-loop plan count heads sum₀ r₀ sum r = (r ≤ count) × (sum ≡ counted plan r)
+Inv-loop plan count sum₀ r₀ sum r = (r ≤ count) × (sum ≡ counted plan r)
 
 abbrev μ-loop : tie.MeasureT-loop
-μ-loop plan count heads sum₀ r₀ sum r = count - r
+μ-loop plan count sum₀ r₀ sum r = count - r
 
--- src/turn.rt:82:17
+-- src/turn.rt:80:17
 add-count : tie.Need-add-count Inv-loop μ-loop
 add-count c = search needs
 
--- src/turn.rt:82:17
+-- src/turn.rt:80:17
 add-count-2 : tie.Need-add-count-2 Inv-loop μ-loop
 add-count-2 c = search needs
 
--- src/turn.rt:83:17
-laid-requires : tie.Need-laid-requires Inv-loop μ-loop
-laid-requires c κs = search needs
-
--- src/turn.rt:84:19
+-- src/turn.rt:81:19
 mul-sum : tie.Need-mul-sum Inv-loop μ-loop
 mul-sum c = search needs
 
--- src/turn.rt:86:5
+-- src/turn.rt:83:5
 loop-holds : tie.Need-loop-holds Inv-loop μ-loop
-loop-holds c = (search needs, sym (counted-none (c .before .before .args .t1)))
+loop-holds c = (search needs, sym (counted-none (c .args .t1)))
 
--- src/turn.rt:87:13
+-- src/turn.rt:84:13
 run-at-requires : tie.Need-run-at-requires Inv-loop μ-loop
-run-at-requires c κs = (search needs, (search needs, (omega arith, lent-good _ _ _ _ _ (omega arith) (omega arith) (c .before .before .before .before .before .before .before .before .before .before .before .before .before .before .before .pre) (omega arith) (c .before .before .before .before .before .before .before .before .before .before .before .before .before .laid .ensures))))
+run-at-requires c κs = (search needs, (search needs, (omega arith, good-half _ _ _ _ (omega arith) (omega arith) (c .before .before .before .before .before .before .before .before .before .before .before .before .before .pre) (omega arith))))
 
--- src/turn.rt:104:9
+-- src/turn.rt:101:9
 add-sum : tie.Need-add-sum Inv-loop μ-loop
 add-sum c =
-    let p = c .before .before .before .before .before .before .before .before .before .before .before .before .before .before .before .before .args .t1 in
-    let more = counted-more p (c .before .before .before .before .before .before .before .before .before .before .before .before .before .loop .r) _ (c .run-at .ensures ∙ lent-run _ _ _ (c .before .before .before .before .before .before .before .before .before .before .before .before .before .before .laid .ensures)) (runs-inside p (c .before .before .before .before .before .before .before .before .before .before .before .before .before .loop .r) (omega arith)) in
-    omega (arith, c .before .before .before .before .before .before .before .before .before .before .before .before .before .loop .inv .1, more, counted-within p (c .before .before .before .before .before .before .before .before .before .before .before .before .before .loop .r + 1) (omega arith), c .before .before .before .before .before .before .before .before .before .before .before .before .before .before .before .before .pre .count)
+    let p = c .before .before .before .before .before .before .before .before .before .before .before .before .before .before .args .t1 in
+    let r = c .before .before .before .before .before .before .before .before .before .before .before .before .before .loop .r in
+    let more = counted-more p r (c .run-at .result) (c .run-at .ensures) (runs-inside p r (omega arith)) in
+    omega (arith, c .before .before .before .before .before .before .before .before .before .before .before .before .before .loop .inv .1, more, counted-within p (r + 1) (omega arith), c .before .before .before .before .before .before .before .before .before .before .before .before .before .before .pre .count)
 
--- src/turn.rt:105:9
+-- src/turn.rt:102:9
 add-r : tie.Need-add-r Inv-loop μ-loop
-add-r c = omega (arith, c .before .before .before .before .before .before .before .before .before .before .before .before .loop-test .taken, c .before .before .before .before .before .before .before .before .before .before .before .before .before .before .before .before .pre .rows, c .before .before .before .before .before .before .before .before .before .before .before .before .before .before .before .before .pre .fresh)
+add-r c = omega (arith, c .before .before .before .before .before .before .before .before .before .before .before .before .loop-test .taken, c .before .before .before .before .before .before .before .before .before .before .before .before .before .before .pre .rows, c .before .before .before .before .before .before .before .before .before .before .before .before .before .before .pre .fresh)
 
--- src/turn.rt:86:5
+-- src/turn.rt:83:5
 loop-less : tie.Need-loop-less Inv-loop μ-loop
 loop-less c = search needs
 
--- src/turn.rt:86:5
+-- src/turn.rt:83:5
 loop-again : tie.Need-loop-again Inv-loop μ-loop
 loop-again c =
-    let p = c .before .before .before .before .before .before .before .before .before .before .before .before .before .before .before .before .args .t1 in
-    let more = counted-more p (c .before .before .before .before .before .before .before .before .before .before .before .before .before .loop .r) _ (c .run-at .ensures ∙ lent-run _ _ _ (c .before .before .before .before .before .before .before .before .before .before .before .before .before .before .laid .ensures)) (runs-inside p (c .before .before .before .before .before .before .before .before .before .before .before .before .before .loop .r) (omega arith)) in
+    let p = c .before .before .before .before .before .before .before .before .before .before .before .before .before .before .args .t1 in
+    let r = c .before .before .before .before .before .before .before .before .before .before .before .before .before .loop .r in
+    let more = counted-more p r (c .run-at .result) (c .run-at .ensures) (runs-inside p r (omega arith)) in
     (search needs, omega (arith, c .before .before .before .before .before .before .before .before .before .before .before .before .before .loop .inv .1, more))
 
--- src/turn.rt:78:1
+-- src/turn.rt:76:1
 returns : tie.Need-returns Inv-loop μ-loop
 returns c =
-    let p = c .before .before .before .before .args .t1 in
+    let p = c .before .before .args .t1 in
     let done : c .before .loop .r ≡ 11 + p .fresh + p .rows = omega arith in
     c .before .loop .inv .1 ∙ ap (counted p) done ∙ counted-all p
 
@@ -74,7 +73,6 @@ whole-spec =
     μ-loop
     add-count
     add-count-2
-    laid-requires
     mul-sum
     loop-holds
     run-at-requires
