@@ -2,6 +2,9 @@
 // answered, and at the end how many answers are wrong.
 mod ask;
 mod build;
+mod limits;
+mod sheet;
+mod shown;
 mod tally;
 
 use build::fresh;
@@ -352,5 +355,6 @@ fn main() {
     let t = elements(t);
     let t = short_slices(t);
     let t = defaults(t);
+    let t = limits::worked(t);
     t.print();
 }
