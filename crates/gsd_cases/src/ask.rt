@@ -1,5 +1,7 @@
 // The calls, each answered by one number.
+use crate::build::chunk;
 use gsd_format::Element;
+use gsd_format::Entry;
 use gsd_format::Listed;
 use gsd_format::Opening;
 use gsd_format::Place;
@@ -69,4 +71,46 @@ pub fn slots(image: &[u8; 4096]) -> u64 {
 
 pub fn segments(image: &[u8; 4096]) -> u64 {
     gsd_read::survey_of(image).layout.segments
+}
+
+pub fn nth_entry(image: &[u8; 4096], n: u64) -> Entry {
+    match gsd_read::entry(image, n) {
+        Listed::Found(e) => e,
+        Listed::Refused(_) => chunk(0, 0, 0, 0),
+    }
+}
+
+// What stands in the image.
+
+pub fn word(image: &[u8; 4096], at: usize) -> u64 {
+    if 4088 < at {
+        return 0;
+    }
+    gsd_bytes::u64_at(image, at)
+}
+
+pub fn has(image: &[u8; 4096], at: usize, text: &[u8]) -> bool {
+    if 4096 < at {
+        return false;
+    }
+    if 4096 - at < text.len() {
+        return false;
+    }
+    gsd_bytes::same_part(image, at, text, 0, text.len())
+}
+
+// 1 where two images differ.
+pub fn changed(before: &[u8; 4096], after: &[u8; 4096]) -> u64 {
+    if gsd_bytes::same_part(before, 0, after, 0, 4096) {
+        return 0;
+    }
+    1
+}
+
+pub fn chunk_is(image: &[u8; 4096], frame: u64, name: &[u8], expected: &[u8]) -> bool {
+    check::same(gsd_read::chunk(image, frame, name), expected)
+}
+
+pub fn name_is(image: &[u8; 4096], n: u64, expected: &[u8]) -> bool {
+    check::same(gsd_read::name_bytes(image, n), expected)
 }

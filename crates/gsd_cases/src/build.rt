@@ -1,5 +1,23 @@
 // Images of 4,096 bytes for the cases. What would lie behind their end is not put.
 use gsd_format::Entry;
+ghost use mathlib.Core.Path.{_≡_};
+ghost use Prim.Native.Nat.{_≤_};
+ghost use lib.ListN.{length};
+
+// No more than there are.
+pub fn within(len: usize, most: usize) -> usize
+    ensures { λ r. ⌜ r ≤ most ⌝ }
+{
+    if most < len {
+        return most;
+    }
+    len
+}
+
+pub fn first(bytes: &[u8], len: usize) -> &[u8] {
+    let len = within(len, bytes.len());
+    &bytes[0..len]
+}
 
 pub fn put_word(image: &mut [u8; 4096], at: usize, w: u64) {
     if at <= 4088 {
@@ -27,15 +45,31 @@ pub fn put_entry(image: &mut [u8; 4096], at: usize, e: Entry) {
     put_word(
         image,
         at + 24,
-        e.m as u64 + 4294967296 * (e.id as u64) + 281474976710656 * (e.kind as u64),
+        e.m as u64
+            + 4294967296 * (e.id as u64)
+            + 281474976710656 * (e.kind as u64)
+            + 72057594037927936 * (e.flags as u64),
     );
 }
 
-// So many names from a place on, two bytes each and no two equal; the first is "00".
+// A block's place and count, at its two words of the header: from 8 the index block's, from 24 the name block's.
+pub fn put_block(image: &mut [u8; 4096], word: usize, location: u64, count: u64) {
+    put_word(image, word, location);
+    put_word(image, std::num::wrapping_add_usize(word, 8), count);
+}
+
+// The i-th of up to 4,096 names, no two of them equal; the first is "00".
+pub fn numbered(i: u16) -> [u8; 2]
+    ensures { λ r. ⌜ 2 ≡ length r ⌝ }
+{
+    [(48 + i / 64 % 64) as u8, (48 + i % 64) as u8]
+}
+
+// So many of them from a place on.
 pub fn put_names(image: &mut [u8; 4096], at: u16, count: u16) {
     let mut i: u16 = 0;
     while i < count {
-        let name = [(48 + i / 64 % 64) as u8, (48 + i % 64) as u8, 0];
+        let name = numbered(i);
         put_text(image, at as usize + 3 * i as usize, &name);
         i += 1;
     }
@@ -44,6 +78,14 @@ pub fn put_names(image: &mut [u8; 4096], at: u16, count: u16) {
 pub fn fresh(slots: u64, segments: u64) -> [u8; 4096] {
     let mut image = [0u8; 4096];
     gsd_create::create(&mut image, b"cases", b"none", 0, slots, segments);
+    image
+}
+
+// So many names in 49 segments, then a text.
+pub fn named(count: u16, text: &[u8]) -> [u8; 4096] {
+    let mut image = fresh(1, 49);
+    put_names(&mut image, 288, count);
+    put_text(&mut image, 288 + 3 * count as usize, text);
     image
 }
 
@@ -70,5 +112,22 @@ pub fn sample() -> [u8; 4096] {
         384,
         b"\x00\x00\xa4\x41\x00\x00\xaa\x41\x00\x00\x9e\x41",
     );
+    image
+}
+
+// It with another chunk.
+pub fn chunk(location: u64, n: u64, m: u32, kind: u8) -> Entry {
+    let mut e = probe();
+    e.location = location;
+    e.n = n;
+    e.m = m;
+    e.kind = kind;
+    e
+}
+
+// The sample with another first entry.
+pub fn sample_with(e: Entry) -> [u8; 4096] {
+    let mut image = sample();
+    put_entry(&mut image, 256, e);
     image
 }

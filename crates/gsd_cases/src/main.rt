@@ -3,19 +3,23 @@
 mod ask;
 mod build;
 mod limits;
+mod places;
+mod rows;
 mod sheet;
 mod shown;
+mod stores;
 mod tally;
 
+use build::chunk;
 use build::fresh;
+use build::named;
 use build::probe;
+use build::put_block;
 use build::put_entry;
-use build::put_names;
 use build::put_text;
-use build::put_word;
 use build::sample;
+use build::sample_with;
 use gsd_create::create;
-use gsd_format::Entry;
 use tally::Tally;
 
 // The header.
@@ -40,57 +44,36 @@ fn magics(t: Tally) -> Tally {
     )
 }
 
-// The opening of an empty image with another index block, or another name block.
-
-fn with_index(location: u64, slots: u64) -> u64 {
+// The opening of an empty image with another index block (word 8) or another name block (word 24).
+fn with_block(word: usize, location: u64, count: u64) -> u64 {
     let mut image = fresh(2, 1);
-    put_word(&mut image, 8, location);
-    put_word(&mut image, 16, slots);
+    put_block(&mut image, word, location, count);
     ask::opening(&image)
 }
 
-fn with_names(location: u64, segments: u64) -> u64 {
-    let mut image = fresh(2, 1);
-    put_word(&mut image, 24, location);
-    put_word(&mut image, 32, segments);
-    ask::opening(&image)
+fn empty_block(t: Tally, says: &[u8], word: usize, location: u64, expected: u64) -> Tally {
+    let got = with_block(word, location, 0);
+    t.case(says)
+        .said(b" at ", location)
+        .answer(b": ", got, expected)
+        .end()
 }
 
-fn index_blocks(t: Tally) -> Tally {
-    let t = t.with(b"empty index block at 0", with_index(0, 0), 6);
-    let t = t.with(b"empty index block at 255", with_index(255, 0), 6);
-    let t = t.with(b"empty index block at the end", with_index(4096, 0), 0);
-    let t = t.with(b"empty index block behind the end", with_index(4097, 0), 6);
-    let t = t.with(
-        b"empty index block in the name block",
-        with_index(330, 0),
-        0,
-    );
-    t.with(b"2^59 slots", with_index(256, 576460752303423488), 6)
+// At 0, before the header's end, at the slice's end, behind it, and in the other block.
+fn empty_blocks(t: Tally, says: &[u8], word: usize, other: u64, refused: u64) -> Tally {
+    let t = empty_block(t, says, word, 0, refused);
+    let t = empty_block(t, says, word, 255, refused);
+    let t = empty_block(t, says, word, 4096, 0);
+    let t = empty_block(t, says, word, 4097, refused);
+    empty_block(t, says, word, other, 0)
 }
 
-fn name_blocks(t: Tally) -> Tally {
-    let t = t.with(b"empty name block at 0", with_names(0, 0), 7);
-    let t = t.with(b"empty name block at 255", with_names(255, 0), 7);
-    let t = t.with(b"empty name block at the end", with_names(4096, 0), 0);
-    let t = t.with(b"empty name block behind the end", with_names(4097, 0), 7);
-    let t = t.with(
-        b"empty name block in the index block",
-        with_names(260, 0),
-        0,
-    );
-    t.with(b"2^58 segments", with_names(320, 288230376151711744), 7)
+fn vast_blocks(t: Tally) -> Tally {
+    let t = t.with(b"2^59 slots", with_block(8, 256, 576460752303423488), 6);
+    t.with(b"2^58 segments", with_block(24, 320, 288230376151711744), 7)
 }
 
 // The names.
-
-// So many names in 49 segments, then a text.
-fn named(count: u16, text: &[u8]) -> [u8; 4096] {
-    let mut image = fresh(1, 49);
-    put_names(&mut image, 288, count);
-    put_text(&mut image, 288 + 3 * count as usize, text);
-    image
-}
 
 fn numbers_of_names(t: Tally) -> Tally {
     let image = named(1024, b"");
@@ -121,9 +104,7 @@ fn name_lists(t: Tally) -> Tally {
 fn long_names(t: Tally) -> Tally {
     let name = [110u8; 300];
     let mut image = fresh(2, 5);
-    let mut e = probe();
-    e.location = 640;
-    put_entry(&mut image, 256, e);
+    put_entry(&mut image, 256, chunk(640, 3, 1, 9));
     put_text(&mut image, 320, &name);
     let t = t.with(b"a name of 300 bytes", ask::opening(&image), 0);
     let t = t.with(b"its size", ask::name_size(&image, 0), 300);
@@ -132,21 +113,8 @@ fn long_names(t: Tally) -> Tally {
 
 // The entries.
 
-// The opening of the sample with another first entry, or with another chunk in it.
-
-fn with_entry(e: Entry) -> u64 {
-    let mut image = sample();
-    put_entry(&mut image, 256, e);
-    ask::opening(&image)
-}
-
 fn with_chunk(location: u64, n: u64, m: u32, kind: u8) -> u64 {
-    let mut e = probe();
-    e.location = location;
-    e.n = n;
-    e.m = m;
-    e.kind = kind;
-    with_entry(e)
+    ask::opening(&sample_with(chunk(location, n, m, kind)))
 }
 
 fn empty_chunks(t: Tally) -> Tally {
@@ -197,37 +165,23 @@ fn chunks(t: Tally) -> Tally {
 // Three slots: an entry, one with location 0 that no test would pass, and one that looks well.
 fn ended() -> [u8; 4096] {
     let mut image = fresh(3, 1);
-    let mut e = probe();
-    e.location = 416;
+    let mut e = chunk(416, 3, 1, 9);
     put_entry(&mut image, 256, e);
-    put_entry(
-        &mut image,
-        288,
-        Entry {
-            frame: 99,
-            n: 1,
-            location: 0,
-            m: 1,
-            id: 65535,
-            kind: 99,
-            flags: 0,
-        },
-    );
     e.frame = 1;
     put_entry(&mut image, 320, e);
+    e.frame = 99;
+    e.id = 65535;
+    e.kind = 99;
+    e.location = 0;
+    put_entry(&mut image, 288, e);
     put_text(&mut image, 352, b"probe");
     image
 }
 
 // The opening of the sample with a chunk too long in entry 0 and a location too low in entry 1.
 fn with_two() -> u64 {
-    let mut image = sample();
-    let mut far = probe();
-    far.n = 4096;
-    put_entry(&mut image, 256, far);
-    let mut low = probe();
-    low.location = 255;
-    put_entry(&mut image, 288, low);
+    let mut image = sample_with(chunk(384, 4096, 1, 9));
+    put_entry(&mut image, 288, chunk(255, 3, 1, 9));
     ask::opening(&image)
 }
 
@@ -243,7 +197,11 @@ fn entry_lists(t: Tally) -> Tally {
     let mut e = probe();
     e.kind = 11;
     e.id = 1;
-    t.with(b"unknown type and unlisted id", with_entry(e), 13)
+    t.with(
+        b"unknown type and unlisted id",
+        ask::opening(&sample_with(e)),
+        13,
+    )
 }
 
 // Lookup and elements.
@@ -267,13 +225,7 @@ fn odd_names(t: Tally) -> Tally {
 
 // An element of the sample with another chunk.
 fn element_with(n: u64, m: u32, kind: u8, k: u64) -> u64 {
-    let mut image = sample();
-    let mut e = probe();
-    e.n = n;
-    e.m = m;
-    e.kind = kind;
-    put_entry(&mut image, 256, e);
-    ask::element(&image, b"probe", k)
+    ask::element(&sample_with(chunk(384, n, m, kind)), b"probe", k)
 }
 
 fn elements(t: Tally) -> Tally {
@@ -343,8 +295,9 @@ fn defaults(t: Tally) -> Tally {
 
 fn main() {
     let t = magics(Tally { cases: 0, wrong: 0 });
-    let t = index_blocks(t);
-    let t = name_blocks(t);
+    let t = empty_blocks(t, b"empty index block", 8, 330, 6);
+    let t = empty_blocks(t, b"empty name block", 24, 260, 7);
+    let t = vast_blocks(t);
     let t = numbers_of_names(t);
     let t = name_lists(t);
     let t = long_names(t);
@@ -356,5 +309,8 @@ fn main() {
     let t = short_slices(t);
     let t = defaults(t);
     let t = limits::worked(t);
+    let t = places::places(t);
+    let t = stores::stores(t);
+    let t = rows::rows(t);
     t.print();
 }

@@ -1,4 +1,7 @@
 // An append run on an image, and what it answers and leaves: the counts that opening then answers, and the end of use.
+use crate::ask::changed;
+use crate::build::first;
+use crate::build::within;
 use crate::sheet::Sheet;
 use crate::tally::Tally;
 use gsd_format::Entry;
@@ -16,16 +19,19 @@ pub struct Shown {
     pub end: u64,
 }
 
-// What a whole append shows: all its stores done.
-pub fn all(whole: u64, frames: u64, names: u64, entries: u64, end: u64) -> Shown {
+pub fn stopped(done: u64, whole: u64, frames: u64, names: u64, entries: u64, end: u64) -> Shown {
     Shown {
-        done: whole,
+        done,
         whole,
         frames,
         names,
         entries,
         end,
     }
+}
+
+pub fn all(whole: u64, frames: u64, names: u64, entries: u64, end: u64) -> Shown {
+    stopped(whole, whole, frames, names, entries, end)
 }
 
 // The end of use.
@@ -85,21 +91,6 @@ fn end_of_use(image: &[u8], entries: u64) -> u64 {
 
 // The append.
 
-// No more than there are.
-fn within(len: usize, most: usize) -> usize
-    ensures { λ r. ⌜ r ≤ most ⌝ }
-{
-    if most < len {
-        return most;
-    }
-    len
-}
-
-fn first(bytes: &[u8], len: usize) -> &[u8] {
-    let len = within(len, bytes.len());
-    &bytes[0..len]
-}
-
 fn append_first(
     image: &mut [u8],
     len: usize,
@@ -156,14 +147,7 @@ pub fn shows(
     compared(t, got, expected)
 }
 
-fn changed(before: &[u8; 4096], after: &[u8; 4096]) -> u64 {
-    if check::same(before, after) {
-        return 0;
-    }
-    1
-}
-
-// An append that is refused with this number, whatever the limit, and changes nothing.
+// An append that is refused with this number, reports 0 and 0, and changes nothing.
 pub fn refuses(
     t: Tally,
     says: &[u8],

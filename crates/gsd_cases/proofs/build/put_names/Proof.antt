@@ -13,17 +13,8 @@ abbrev μ-loop : tie.MeasureT-loop
 loop-holds : tie.Need-loop-holds Inv-loop μ-loop
 loop-holds c = search needs
 
-add-t9 : tie.Need-add-t9 Inv-loop μ-loop
-add-t9 c = search needs
-
-cast-t10 : tie.Need-cast-t10 Inv-loop μ-loop
-cast-t10 c = search needs
-
-add-t12 : tie.Need-add-t12 Inv-loop μ-loop
-add-t12 c = search needs
-
-cast-t13 : tie.Need-cast-t13 Inv-loop μ-loop
-cast-t13 c = search needs
+numbered-requires : tie.Need-numbered-requires Inv-loop μ-loop
+numbered-requires c κs = search needs
 
 cast-put-text : tie.Need-cast-put-text Inv-loop μ-loop
 cast-put-text c = search needs
@@ -59,10 +50,7 @@ put-names-spec =
     Inv-loop
     μ-loop
     loop-holds
-    add-t9
-    cast-t10
-    add-t12
-    cast-t13
+    numbered-requires
     cast-put-text
     mul-put-text
     add-put-text

@@ -1,0 +1,185 @@
+// Sheets with rows that are refused, in any order, as many as there may be, or with names that a stopped append left.
+use crate::ask;
+use crate::build::fresh;
+use crate::build::named;
+use crate::build::numbered;
+use crate::build::sample;
+use crate::sheet::Sheet;
+use crate::sheet::nothing;
+use crate::sheet::sheet_a;
+use crate::sheet::table;
+use crate::shown::all;
+use crate::shown::append;
+use crate::shown::refuses;
+use crate::shown::shows;
+use crate::shown::stopped;
+use crate::tally::Tally;
+
+fn many(count: u16) -> Sheet {
+    let mut sheet = table(count);
+    let mut i = 0;
+    while i < count {
+        let name = numbered(i);
+        sheet = sheet.with(&name, b"1");
+        i += 1;
+    }
+    sheet
+}
+
+// 256 + 128 clears, 64 words of data; a name of 2 bytes crosses a word once in 8, so 72 words of names; 256 of entries.
+fn counts(t: Tally) -> Tally {
+    let mut image = fresh(64, 16);
+    let t = refuses(t, b"paper, 65 rows", image, 4096, many(65), 22);
+    shows(
+        t,
+        b"paper, 64 rows",
+        &mut image,
+        4096,
+        many(64),
+        all(776, 1, 64, 64, 3840),
+    )
+}
+
+// Each number is tested over all rows before the next.
+
+fn tables(t: Tally) -> Tally {
+    let image = fresh(2, 1);
+    let t = refuses(t, b"65 rows in 4 bytes", image, 1024, table(65).cut(4), 22);
+    let t = refuses(t, b"64 rows in 4 bytes", image, 1024, table(64).cut(4), 23);
+    let rows = table(2).with_row(b"a", 1, 9, b"").with_row(b"b", 0, 0, b"");
+    refuses(
+        t,
+        b"data too short, then an unknown type",
+        image,
+        1024,
+        rows,
+        24,
+    )
+}
+
+fn bodies(t: Tally) -> Tally {
+    let image = fresh(2, 1);
+    let rows = table(2).with(b"\x00", b"").with_row(b"a", 1, 9, b"");
+    let t = refuses(
+        t,
+        b"a zero in a name, then data too short",
+        image,
+        1024,
+        rows,
+        25,
+    );
+    let twice = table(3).with(b"a", b"").with(b"a", b"");
+    let t = refuses(
+        t,
+        b"two rows with one name, then a zero in a name",
+        image,
+        1024,
+        twice.with(b"b\x00", b""),
+        26,
+    );
+    refuses(
+        t,
+        b"two rows with one name",
+        image,
+        1024,
+        twice.with(b"b", b""),
+        27,
+    )
+}
+
+// Data and new ids go by row, entries by id, and the entry with the highest id is stored first.
+
+fn unordered() -> Sheet {
+    table(3)
+        .with(b"heater", b"1")
+        .with(b"fan", b"2")
+        .with(b"probe", b"3")
+}
+
+fn order(t: Tally) -> Tally {
+    let mut image = sample();
+    let t = shows(
+        t,
+        b"rows heater, fan, probe",
+        &mut image,
+        1024,
+        unordered(),
+        all(48, 2, 3, 4, 552),
+    );
+    let t = t.holds(b"name 1 is heater", ask::name_is(&image, 1, b"heater"));
+    let t = t.with(
+        b"location of probe, id 0",
+        ask::nth_entry(&image, 1).location,
+        416,
+    );
+    let t = t.with(
+        b"location of heater, id 1",
+        ask::nth_entry(&image, 2).location,
+        400,
+    );
+    t.with(
+        b"location of fan, id 2",
+        ask::nth_entry(&image, 3).location,
+        408,
+    )
+}
+
+fn order_of_stores(t: Tally) -> Tally {
+    let mut image = sample();
+    let t = shows(
+        t,
+        b"rows heater, fan, probe",
+        &mut image,
+        1024,
+        unordered(),
+        stopped(40, 48, 1, 3, 1, 552),
+    );
+    let t = t.with(b"location in fan's slot", ask::word(&image, 536), 408);
+    t.with(b"location in heater's slot", ask::word(&image, 504), 0)
+}
+
+// A name that a stopped append left is an existing name.
+
+fn existing(t: Tally) -> Tally {
+    let mut image = fresh(2, 1);
+    append(&mut image, 1024, sheet_a(), 22);
+    shows(
+        t,
+        b"sheet A after 22 stores of it",
+        &mut image,
+        1024,
+        sheet_a(),
+        all(22, 1, 1, 1, 400),
+    )
+}
+
+fn existing_1024(t: Tally) -> Tally {
+    let mut image = named(1023, b"");
+    let t = shows(
+        t,
+        b"row zz behind 1023 names",
+        &mut image,
+        4096,
+        nothing(b"zz"),
+        stopped(14, 18, 0, 1024, 0, 3424),
+    );
+    let t = refuses(t, b"row yy after it", image, 4096, nothing(b"yy"), 28);
+    shows(
+        t,
+        b"row zz after it",
+        &mut image,
+        4096,
+        nothing(b"zz"),
+        all(16, 1, 1024, 1, 3424),
+    )
+}
+
+pub fn rows(t: Tally) -> Tally {
+    let t = counts(t);
+    let t = tables(t);
+    let t = bodies(t);
+    let t = order(t);
+    let t = order_of_stores(t);
+    let t = existing(t);
+    existing_1024(t)
+}
