@@ -2,6 +2,7 @@
 use crate::build::chunk;
 use gsd_format::Element;
 use gsd_format::Entry;
+use gsd_format::Layout;
 use gsd_format::Listed;
 use gsd_format::Opening;
 use gsd_format::Place;
@@ -65,12 +66,20 @@ pub fn float_bits(image: &[u8; 4096], name: &[u8], k: u64) -> u64 {
     }
 }
 
+pub fn layout(image: &[u8]) -> Layout {
+    let mut starts = [0u32; 1025];
+    let s = gsd_read::survey_of(image, &mut starts);
+    s.layout
+}
+
 pub fn slots(image: &[u8; 4096]) -> u64 {
-    gsd_read::survey_of(image).layout.slots
+    let l = layout(image);
+    l.slots
 }
 
 pub fn segments(image: &[u8; 4096]) -> u64 {
-    gsd_read::survey_of(image).layout.segments
+    let l = layout(image);
+    l.segments
 }
 
 pub fn nth_entry(image: &[u8; 4096], n: u64) -> Entry {

@@ -1,5 +1,6 @@
 // An append run on an image, and what it answers and leaves: the counts that opening then answers, and the end of use.
 use crate::ask::changed;
+use crate::ask::layout;
 use crate::build::first;
 use crate::build::within;
 use crate::sheet::Sheet;
@@ -54,10 +55,10 @@ fn few(count: u64) -> u64
 }
 
 fn blocks_end(image: &[u8]) -> u64 {
-    let layout = gsd_read::survey_of(image).layout;
+    let l = layout(image);
     greater(
-        std::num::wrapping_add_u64(layout.index, 32 * few(layout.slots)),
-        std::num::wrapping_add_u64(layout.namelist, 64 * few(layout.segments)),
+        std::num::wrapping_add_u64(l.index, 32 * few(l.slots)),
+        std::num::wrapping_add_u64(l.namelist, 64 * few(l.segments)),
     )
 }
 
