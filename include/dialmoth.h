@@ -3,14 +3,19 @@
  *
  * An image is a whole slice of memory lent by the caller, from 256 to
  * 1,073,741,824 bytes; a file's content, or a region laid out beforehand that
- * is longer than what is used. No call keeps a pointer, allocates, or touches
- * anything but its arguments.
+ * is longer than what is used. No call keeps a pointer, allocates, locks, or
+ * touches anything but its arguments, and there is no state between calls: any
+ * thread may call, and several at once where none writes what another uses.
+ *
+ * The archive is for x86-64 (System V), for C and C++, and takes memcpy and
+ * memset from the C library, nothing else. Beside what these two use, the stack
+ * needs at most 22 KiB for a reading call, 34 KiB for append, 1 KiB for create.
  *
  * Every call answers a number: 0, or the number of the refusal:
  *
  *   No.      Refused exactly when
  *   -------  ---------------------------------------------------------------
- *            opening, in this order; every call on an image opens it first
+ *            opening, in this order; every call but create opens first
  *    1,  2   image under 256 bytes; over 1,073,741,824
  *    3,  4   wrong magic; version not 2.0
  *    5       application or schema has no zero byte
@@ -47,8 +52,9 @@
  * the lowest number. A refusal changes nothing, neither the image nor out; only
  * a refused append sets its out to 0 and 0.
  *
- * Pointers are never null, not even with length 0. What a call writes, the
- * image of create and append and every out, overlaps no other argument.
+ * Pointers are never null, not even with length 0; bytes may lie at any address.
+ * What a call writes, the image of create and append and every out, overlaps no
+ * other argument.
  */
 #ifndef DIALMOTH_H
 #define DIALMOTH_H
@@ -138,7 +144,8 @@ uint64_t dialmoth_create(uint8_t *image, size_t image_length,
 /* Appends the sheet's chunks as one new frame, by 8-byte stores on multiples of
  * 8 in a fixed order, and stops after `limit` of them; UINT64_MAX makes all.
  * The frame is there once the last store is made, and not before: after a stop
- * every older frame reads as it did, and the same append may be made again.
+ * every older frame reads as it did, and the same append may be made again. (A
+ * block that was moved before the stop stays moved, so it may take more room.)
  * A stop is this limit, seen as the call ends: within a call the compiler may
  * join or reorder stores, so a cut of power inside it is not covered.
  * out: stores done, stores of the whole append. The frame is there exactly when

@@ -116,12 +116,12 @@ int main(void)
     append_frame(evening, NULL, UINT64_MAX);
     print_last_duty();
 
-    /* The power fails after ten stores: the last frame reads as before. */
+    /* An append is stopped after ten stores: the last frame reads as before. */
     if (append_frame(night, &more, 10))
         return 1;
     print_last_duty();
 
-    /* After the restart the same append is made again, and now to its end. */
+    /* The same append is made again, and now to its end. */
     if (!append_frame(night, &more, UINT64_MAX))
         return 1;
     print_last_duty();

@@ -255,6 +255,34 @@ class Tests:
         real_reads(path, frames, names)
         ours_reads(self.peer, path, frames, names)
 
+    def left_stopped(self, rng, path):
+        """Stopped anywhere and left so: gsd.pygsd goes slot by slot, and finds the list's end."""
+        self.peer.create(path, 20_000, rng.choice([1, 2, 64]), rng.choice([1, 16]))
+        frames = [random_frame(rng) for _ in range(rng.randint(1, 3))]
+        for frame in frames:
+            assert self.peer.append(path, frame)[0] == 0
+        frame = random_frame(rng)
+        whole = self.peer.append(path, frame, 0)[2]
+        limit = rng.choice([rng.randrange(whole), whole - 1 - rng.randrange(min(8, whole))])
+        assert self.peer.append(path, frame, limit) == (0, limit, whole)
+        ours_reads(self.peer, path, frames)
+        with gsd.pygsd.GSDFile(open(path, "rb")) as file:
+            hold(file, frames)
+
+    def half_a_frame(self, _, path):
+        """Why gsd.fl must not be given such an image: it halves, and lists a slot behind the end."""
+        probe = numpy.array([[1], [2], [3]], dtype=numpy.float32)
+        heater = numpy.array([[40]], dtype=numpy.uint8)
+        self.peer.create(path, 1024, 2, 1)
+        assert self.peer.append(path, {"probe": probe}) == (0, 23, 23)
+        limit = 39
+        both = {"probe": probe, "heater": heater}
+        assert self.peer.append(path, both, limit) == (0, limit, 43)
+        ours_reads(self.peer, path, [{"probe": probe}])
+        with gsd.fl.open(path, "rb") as file:
+            shown = [name for name in both if file.chunk_exists(1, name)]
+            assert (file.nframes, shown) == (2, ["heater"]), (file.nframes, shown)
+
     def real_file(self, rng, path):
         frames = write_real(rng, path)
         with gsd.fl.open(path, "rb") as file:
@@ -263,7 +291,7 @@ class Tests:
 
     def real_grows_ours(self, rng, path):
         """The real library appends to our image at rest, and both read all of it."""
-        self.peer.create(path, 4000, 64, 16)
+        self.peer.create(path, 10_000, 64, 16)
         frames = [random_frame(rng) for _ in range(rng.randint(1, 5))]
         for frame in frames:
             assert self.peer.append(path, frame)[0] == 0
@@ -288,11 +316,14 @@ class Tests:
         real_reads(path, frames)
 
     def stored(self, path):
-        """A stored file: what both read is the same."""
+        """A stored file: what both read is the same, or it is refused as its listing says."""
         found = self.peer.read(path)
+        with open(path.removesuffix(".gsd") + ".list") as file:
+            first = file.readline()
         if isinstance(found, int):
-            assert found in (14, 15), found
+            assert found in (14, 15) and first == f"refused {found}\n", found
             return
+        assert first.startswith("frames ")
         with gsd.fl.open(path, "rb") as file:
             # Frames without a chunk behind the last one are not told from no frame at all.
             assert file.find_matching_chunk_names("") == found[0]
@@ -308,6 +339,8 @@ def main():
         tests.test("ours after whole appends, read by gsd.fl and gsd.pygsd", 120, tests.whole)
         tests.test("ours after stops and whole appends", 120, tests.stopped)
         tests.test("ours after a stop and clearing stores", 60, tests.cleared)
+        tests.test("ours left after a stop, read by gsd.pygsd", 60, tests.left_stopped)
+        tests.test("ours left after a stop shows half a frame in gsd.fl", 1, tests.half_a_frame)
         tests.test("files of gsd.fl, read by ours", 60, tests.real_file)
         tests.test("ours, grown by gsd.fl", 60, tests.real_grows_ours)
         tests.test("files of gsd.fl, grown by ours", 60, tests.ours_grows_real)

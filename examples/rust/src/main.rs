@@ -64,12 +64,12 @@ fn main() -> Result<(), Box<dyn Error>> {
     append(&mut image, &Frame { probe: evening, duty: None }, u64::MAX)?;
     print_last_duty(&image)?;
 
-    // The power fails after ten stores: the last frame reads as before.
+    // An append is stopped after ten stores: the last frame reads as before.
     let night = Frame { probe: [18.5, 18.75, 17.5], duty: Some(55) };
     assert!(!append(&mut image, &night, 10)?);
     print_last_duty(&image)?;
 
-    // After the restart the same append is made again, and now to its end.
+    // The same append is made again, and now to its end.
     assert!(append(&mut image, &night, u64::MAX)?);
     print_last_duty(&image)
 }

@@ -34,6 +34,7 @@ pub struct Check<'l> {
     library: &'l dyn Library,
     theirs: Lent,
     argument: Lent,
+    second: Lent,
     ours: Vec<u8>,
     before: Vec<u8>,
     flush: Flush,
@@ -53,6 +54,7 @@ impl<'l> Check<'l> {
             library,
             theirs: Lent::new(1 << 16),
             argument: Lent::new(1 << 16),
+            second: Lent::new(1 << 10),
             ours: Vec::new(),
             before: Vec::new(),
             flush: Flush::End,
@@ -138,6 +140,7 @@ impl<'l> Check<'l> {
         let (mut theirs, mut ours) = (Out::<7>::new(), Out::new());
         let lent = self.argument.lend(name, self.flush);
         let number = self.library.lookup(self.theirs.bytes(), frame, lent, &mut theirs.numbers);
+        self.argument_kept(name);
         let expected = Reference.lookup(&self.ours, frame, name, &mut ours.numbers);
         let call = || format!("lookup frame {frame} name {}", hex(name));
         self.judge((number, theirs), (expected, ours), call)
@@ -159,6 +162,7 @@ impl<'l> Check<'l> {
         let (mut theirs, mut ours) = (Out::<2>::new(), Out::new());
         let lent = self.argument.lend(name, self.flush);
         let number = self.library.chunk(self.theirs.bytes(), frame, lent, &mut theirs.numbers);
+        self.argument_kept(name);
         let expected = Reference.chunk(&self.ours, frame, name, &mut ours.numbers);
         let call = || format!("chunk frame {frame} name {}", hex(name));
         self.judge((number, theirs), (expected, ours), call)
@@ -168,6 +172,7 @@ impl<'l> Check<'l> {
         let (mut theirs, mut ours) = (Out::<2>::new(), Out::new());
         let lent = self.argument.lend(name, self.flush);
         let number = self.library.element(self.theirs.bytes(), frame, lent, k, &mut theirs.numbers);
+        self.argument_kept(name);
         let expected = Reference.element(&self.ours, frame, name, k, &mut ours.numbers);
         let call = || format!("element frame {frame} name {} k {k}", hex(name));
         self.judge((number, theirs), (expected, ours), call)
@@ -175,7 +180,17 @@ impl<'l> Check<'l> {
 
     pub fn create(&mut self, request: Create) -> Option<[u64; 0]> {
         self.before.clone_from(&self.ours);
-        let number = self.library.create(self.theirs.bytes_mut(), request);
+        let Create { application, schema, .. } = request;
+        let lent = Create {
+            application: self.argument.lend(application, self.flush),
+            schema: self.second.lend(schema, self.flush),
+            ..request
+        };
+        let number = self.library.create(self.theirs.bytes_mut(), lent);
+        self.argument_kept(application);
+        if self.second.bytes() != schema || !self.second.margin_kept() {
+            self.fail(|| "create wrote the schema".into());
+        }
         let expected = Reference.create(&mut self.ours, request);
         let call = || format!("create {request:?}");
         let answer = self.judge((number, Out::<0>::new()), (expected, Out::new()), call);
@@ -188,14 +203,19 @@ impl<'l> Check<'l> {
         self.before.clone_from(&self.ours);
         let lent = self.argument.lend(sheet, self.flush);
         let number = self.library.append(self.theirs.bytes_mut(), lent, limit, &mut theirs.numbers);
-        if self.argument.bytes() != sheet || !self.argument.margin_kept() {
-            self.fail(|| "append wrote the sheet".into());
-        }
+        self.argument_kept(sheet);
         let expected = Reference.append(&mut self.ours, sheet, limit, &mut ours.numbers);
         let call = || format!("append limit {limit} sheet {}", hex(sheet));
         let answer = self.judge((number, theirs), (expected, ours), call);
         self.judge_bytes(call);
         answer
+    }
+
+    /// No call writes a name, a text or a sheet.
+    fn argument_kept(&mut self, bytes: &[u8]) {
+        if self.argument.bytes() != bytes || !self.argument.margin_kept() {
+            self.fail(|| format!("a call wrote its argument {}", hex(bytes)));
+        }
     }
 
     /// Compares every byte after a call that may write, and sets both sides equal again.

@@ -249,7 +249,7 @@ impl Layout {
             if self.entries > 0 && rng.chance(60) {
                 let slot = self.index.0 + 32 * rng.below(self.entries);
                 let near = self.near(rng);
-                match rng.below(8) {
+                match rng.below(9) {
                     0 => put64(&mut self.image, slot, rng.pick(&[0, 1, 2, 3, u64::MAX])),
                     1 => put64(&mut self.image, slot + 8, rng.border()),
                     2 => put64(&mut self.image, slot + 16, near),
@@ -262,6 +262,14 @@ impl Layout {
                         let near = (1 << (64 - columns - rng.below(4))) + rng.below(3) as u128;
                         put64(&mut self.image, slot + 8, near as u64);
                         put32(&mut self.image, slot + 24, 1 << columns);
+                    }
+                    7 => {
+                        // A chunk within a block, or reaching into it.
+                        let (start, size) = rng.pick(&[self.index, self.name_block]);
+                        let location = start + rng.below(size + 1);
+                        put64(&mut self.image, slot + 8, rng.below(9) as u64);
+                        put64(&mut self.image, slot + 16, location as u64);
+                        put32(&mut self.image, slot + 24, 1);
                     }
                     _ => {
                         put64(&mut self.image, slot + 8, rng.border());

@@ -110,6 +110,12 @@ fn create(check: &mut Check, rng: &mut Rng) {
         Create { application: &application, schema: &schema, schema_version, slots, segments };
     if check.create(request).is_some() {
         check.open();
+        // What is made can be appended to, with the defaults for slots and segments too.
+        if rng.chance(20) {
+            let rows = generate::rows(rng, &[]);
+            check.append(&sheet(&rows), generate::limit(rng));
+            check.read_all(&names_of(&rows));
+        }
     }
 }
 
@@ -452,13 +458,11 @@ fn demand3(check: &mut Check, rng: &mut Rng) {
         .map(|_| {
             let mut rows = generate::rows(rng, &known);
             rows.truncate(3);
-            match rng.below(8) {
-                0 => {
-                    let sheet = generate::damaged_sheet(rng, &rows);
-                    Call { rows: None, sheet, limit: generate::limit(rng) }
-                }
-                _ => Call::of(rows, generate::limit(rng)),
-            }
+            let sheet = match rng.below(8) {
+                0 => generate::damaged_sheet(rng, &rows),
+                _ => sheet(&rows),
+            };
+            Call::new(sheet, generate::limit(rng))
         })
         .collect();
     match Run::make(check.library(), &image, &calls) {

@@ -123,6 +123,30 @@ pub fn sheet(rows: &[Row]) -> Vec<u8> {
     sheet
 }
 
+/// The rows of a sheet that none of 22 to 27 refuses.
+pub fn lawful_rows(sheet: &[u8]) -> Option<Vec<Row>> {
+    let count = u32::from_le_bytes(sheet.get(..4)?.try_into().unwrap()) as usize;
+    if !(1..=64).contains(&count) {
+        return None;
+    }
+    let (table, mut bodies) = sheet[4..].split_at_checked(16 * count)?;
+    let mut rows: Vec<Row> = Vec::new();
+    for row in table.chunks(16) {
+        let (n, m) = (get64(row, 0), u32::from_le_bytes(row[8..12].try_into().unwrap()));
+        let length = u128::from(n) * u128::from(m) * size(row[12]) as u128;
+        let (name, rest) = bodies.split_at_checked(row[13].into())?;
+        let (data, rest) = rest.split_at_checked(usize::try_from(length).ok()?)?;
+        let known = size(row[12]) > 0 && row[14..] == [0, 0];
+        let new = !rows.iter().any(|before| before.name == name);
+        if !known || !new || name.is_empty() || name.contains(&0) {
+            return None;
+        }
+        rows.push(Row::new(name, row[12], n, m, data));
+        bodies = rest;
+    }
+    bodies.is_empty().then_some(rows)
+}
+
 /// Bytes of an element of a type; 0 for an unknown one.
 pub fn size(kind: u8) -> usize {
     [0, 1, 2, 4, 8, 1, 2, 4, 8, 4, 8].get(usize::from(kind)).copied().unwrap_or(0)
