@@ -28,6 +28,14 @@ def open_file(path):
     return work
 
 
+def lookup_day(path):
+    file = gsd.fl.open(path, "rb")
+
+    def work():
+        assert file.chunk_exists(700, "heater")
+    return work
+
+
 def read_day(path):
     file = gsd.fl.open(path, "rb")
 
@@ -69,6 +77,7 @@ def main():
         os.path.join(folder, name) for name in ["month.gsd", "names.gsd", "day.gsd", "new.gsd"])
     print("open_month", best(open_file(month)))
     print("open_names", best(open_file(names)))
+    print("lookup_day", best(lookup_day(day)))
     print("read_day", best(read_day(day)))
     print("append_day", best(append_day(new)))
     print("append_large", best(append_large(new), 0.3))

@@ -12,10 +12,13 @@ use std::hint::black_box;
 use std::path::Path;
 use std::time::{Duration, Instant};
 use std::{env, fs, process};
-use work::{Day, Large};
+use work::{Day, Large, Next};
 
-/// So long for each row, both sides in turn; three times as long for work in parts.
-const TIME: Duration = Duration::from_millis(2500);
+/// Each row's times are medians of so many passes over the table.
+const PASSES: usize = 7;
+
+/// So long for each row of a pass, both sides in turn; three times as long for work in parts.
+const TIME: Duration = Duration::from_millis(500);
 
 /// What one side does, given the number of the part.
 type Side<'a, S> = &'a mut dyn FnMut(&mut S, usize);
@@ -69,43 +72,87 @@ fn time_text(time: Duration) -> String {
     }
 }
 
-struct Table<'l> {
-    library: &'l dyn Library,
-    /// The real library's times in microseconds.
-    real: HashMap<String, f64>,
+/// A row of one pass.
+struct Row {
+    what: &'static str,
+    /// Under which the real library's time is found; empty for none.
+    key: &'static str,
+    library: Duration,
+    other: Duration,
+    /// Whether the two are one work done twice; a small difference of large times has no ratio.
+    compared: bool,
 }
 
-impl Table<'_> {
-    fn row(&self, what: &str, library: Duration, other: Duration, key: &str) {
-        let ratio = library.as_secs_f64() / other.as_secs_f64();
-        let real = match self.real.get(key) {
-            Some(micros) => time_text(Duration::from_secs_f64(micros / 1e6)),
-            None => "-".into(),
-        };
-        let (library, other) = (time_text(library), time_text(other));
-        println!("| {what} | {library} | {other} | {ratio:.2} | {real} |");
+impl Row {
+    fn ratio(&self) -> f64 {
+        self.library.as_secs_f64() / self.other.as_secs_f64()
+    }
+}
+
+/// The rows of one pass.
+struct Pass<'l> {
+    library: &'l dyn Library,
+    rows: Vec<Row>,
+}
+
+impl Pass<'_> {
+    fn row(&mut self, what: &'static str, key: &'static str, library: Duration, other: Duration) {
+        self.rows.push(Row { what, key, library, other, compared: true });
     }
 
     /// The same work for both sides, as a row; answers the library's time.
     fn both<S>(
-        &self,
-        what: &str,
-        key: &str,
+        &mut self,
+        what: &'static str,
+        key: &'static str,
         state: &mut S,
         prepare: impl FnMut(&mut S),
         parts: usize,
         work: impl Fn(&mut S, &dyn Library, usize),
     ) -> Duration {
-        let library = &mut |state: &mut S, part| work(state, self.library, part);
+        let ours = self.library;
+        let library = &mut |state: &mut S, part| work(state, ours, part);
         let plain = &mut |state: &mut S, part| work(state, &Reference, part);
         let times = best(state, prepare, parts, &mut [library, plain]);
-        self.row(what, times[0], times[1], key);
+        self.row(what, key, times[0], times[1]);
         times[0]
     }
 
     /// A reading call.
-    fn reading(&self, what: &str, key: &str, call: impl Fn(&dyn Library)) -> Duration {
+    fn reading(
+        &mut self,
+        what: &'static str,
+        key: &'static str,
+        call: impl Fn(&dyn Library),
+    ) -> Duration {
         self.both(what, key, &mut (), |_| {}, 1, |_, library, _| call(library))
+    }
+}
+
+/// The middle one.
+fn median<T: Copy + PartialOrd>(values: impl Iterator<Item = T>) -> T {
+    let mut values: Vec<T> = values.collect();
+    values.sort_by(|a, b| a.partial_cmp(b).unwrap());
+    values[values.len() / 2]
+}
+
+/// The real library's times in microseconds are by their keys.
+fn print(passes: &[Vec<Row>], real: &HashMap<String, f64>) {
+    for (at, Row { what, key, compared, .. }) in passes[0].iter().enumerate() {
+        let rows = || passes.iter().map(|pass| &pass[at]);
+        let library = time_text(median(rows().map(|row| row.library)));
+        let other = time_text(median(rows().map(|row| row.other)));
+        let least = rows().map(Row::ratio).fold(f64::INFINITY, f64::min);
+        let most = rows().map(Row::ratio).fold(0.0, f64::max);
+        let ratio = match compared {
+            true => format!("{:.2} | {least:.2} to {most:.2}", median(rows().map(Row::ratio))),
+            false => "- | -".into(),
+        };
+        let real = match real.get(*key) {
+            Some(micros) => time_text(Duration::from_secs_f64(micros / 1e6)),
+            None => "-".into(),
+        };
+        println!("| {what} | {library} | {other} | {ratio} | {real} |");
     }
 }
 
@@ -137,34 +184,41 @@ fn element(library: &dyn Library, image: &[u8], frame: u64) {
     black_box(out);
 }
 
-fn table(real: HashMap<String, f64>) {
-    let (library, title) = library();
-    let gsd = if real.is_empty() { "real GSD" } else { "gsd.fl" };
-    println!("Library: {title}. Best times of many, both sides in turn.\n");
-    println!("| | library | plain Rust | ratio | {gsd} |");
-    println!("|---|---|---|---|---|");
-    let table = Table { library, real };
+fn pass(library: &dyn Library) -> Vec<Row> {
+    let mut pass = Pass { library, rows: Vec::new() };
 
     let month = work::month();
-    table.reading("open, 40,000 entries, 16 names", "open_month", |l| open(l, &month));
+    pass.reading("open, 40,000 entries, 16 names", "open_month", |l| open(l, &month));
 
     let names = work::names();
-    let pairs = table.reading("open, 1,024 names", "open_names", |l| open(l, &names));
+    let pairs = pass.reading("open, 1,024 names", "open_names", |l| open(l, &names));
     let hashed = &mut |_: &mut (), _| {
         black_box(reference::open_with_table(black_box(&names)).unwrap());
     };
     let times = best(&mut (), |_| {}, 1, &mut [hashed]);
-    table.row("open, 1,024 names, beside a hash table for the pairs", pairs, times[0], "");
+    pass.row("open, 1,024 names, beside a hash table for the pairs", "", pairs, times[0]);
 
     let (small, mut day) = (work::small(), Day::new());
-    table.reading("lookup, 24 entries", "", |l| lookup(l, &small, 4));
-    table.reading("lookup, 4,320 entries", "", |l| lookup(l, &day.image, 700));
-    table.reading("element, 4,320 entries", "", |l| element(l, &day.image, 700));
+    pass.reading("lookup, 24 entries", "", |l| lookup(l, &small, 4));
+    pass.reading("lookup, 4,320 entries", "lookup_day", |l| lookup(l, &day.image, 700));
+    pass.reading("element, 4,320 entries", "", |l| element(l, &day.image, 700));
     let what = "all 4,320 chunks of a day";
-    table.both(what, "read_day", &mut day, |_| {}, work::FRAMES, |day, l, n| day.read(l, n));
+    pass.both(what, "read_day", &mut day, |_| {}, work::FRAMES, |day, l, n| day.read(l, n));
     let what = "append 1,440 frames of 3 chunks in turn";
-    table
-        .both(what, "append_day", &mut day, Day::clear, work::FRAMES, |day, l, n| day.append(l, n));
+    pass.both(what, "append_day", &mut day, Day::clear, work::FRAMES, |day, l, n| day.append(l, n));
+
+    let mut next = Next::new();
+    let sides: &mut [Side<Next>] = &mut [
+        &mut |next, _| next.append(library),
+        &mut |next, _| next.append(&Reference),
+        &mut |next, _| next.open(library),
+        &mut |next, _| next.open(&Reference),
+    ];
+    let times = best(&mut next, Next::restore, 1, sides);
+    pass.row("append a frame of 3 chunks behind 40,000 entries", "", times[0], times[1]);
+    let [ours, plain] = [0, 1].map(|side| times[side].saturating_sub(times[side + 2]));
+    let what = "the same, less the time of opening it";
+    pass.rows.push(Row { what, key: "", library: ours, other: plain, compared: false });
 
     let mut large = Large::new();
     let sides: &mut [Side<Large>] = &mut [
@@ -173,8 +227,19 @@ fn table(real: HashMap<String, f64>) {
         &mut |large, _| large.copy(),
     ];
     let times = best(&mut large, Large::restore, 1, sides);
-    table.row("append one chunk of 1 MiB", times[0], times[1], "append_large");
-    table.row("append one chunk of 1 MiB, beside memcpy", times[0], times[2], "");
+    pass.row("append one chunk of 1 MiB", "append_large", times[0], times[1]);
+    pass.row("append one chunk of 1 MiB, beside memcpy", "", times[0], times[2]);
+    pass.rows
+}
+
+fn table(real: HashMap<String, f64>) {
+    let (library, title) = library();
+    let gsd = if real.is_empty() { "real GSD" } else { "gsd.fl" };
+    println!("Library: {title}. Medians of {PASSES} passes, in each the best times of both sides in turn.\n");
+    println!("| | library | plain Rust | ratio | least to most | {gsd} |");
+    println!("|---|---|---|---|---|---|");
+    let passes: Vec<_> = (0..PASSES).map(|_| pass(library)).collect();
+    print(&passes, &real);
 
     println!();
     println!("Every call opens its image first: a lookup among 4,320 entries reads them all.");
@@ -184,7 +249,7 @@ fn table(real: HashMap<String, f64>) {
     );
     println!("each run of 1,440 appends, untimed. The 1 MiB chunk goes to memory written before");
     println!("and not cleared; header and blocks are restored, untimed.");
-    if !table.real.is_empty() {
+    if !real.is_empty() {
         println!("gsd.fl works on files, from Python, and writes them by the system's calls.");
     }
 }

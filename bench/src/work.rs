@@ -10,19 +10,25 @@ fn listed(image: &mut [u8], at: usize, names: &[String]) {
     put_names(image, at, names.iter().map(String::as_bytes));
 }
 
-/// 40,000 entries: 2,500 frames of 16 names.
-pub fn month() -> Vec<u8> {
+const ENTRIES: usize = 40_000;
+
+/// 40,000 entries: 2,500 frames of 16 names; and some free slots, with room for their data.
+fn month_and(free: usize) -> Vec<u8> {
     let names: Vec<_> = (0..16).map(|n| format!("probe/{n:02}/reading")).collect();
-    let (slots, segments) = (40_000, 8);
+    let (slots, segments) = (ENTRIES + free, 8);
     let data = 256 + 32 * slots + 64 * segments;
     let mut image =
         blank(data + 8 * slots, 256, slots as u64, (data - 64 * segments) as u64, segments as u64);
     listed(&mut image, data - 64 * segments, &names);
-    let entries: Vec<_> = (0..slots)
+    let entries: Vec<_> = (0..ENTRIES)
         .map(|n| Slot::bytes(n as u64 / 16, n as u16 % 16, (data + 8 * n) as u64, 8))
         .collect();
     put_slots(&mut image, 256, &entries);
     image
+}
+
+pub fn month() -> Vec<u8> {
+    month_and(0)
 }
 
 /// 1,024 names of one length that begin alike, and one frame.
@@ -112,6 +118,35 @@ impl Day {
             assert_eq!(library.chunk(image, minute as u64, name, &mut out), 0);
             black_box(out);
         }
+    }
+}
+
+/// A month's image with three free slots, and a frame of three small rows for them.
+pub struct Next {
+    image: Vec<u8>,
+    sheet: Vec<u8>,
+}
+
+impl Next {
+    pub fn new() -> Next {
+        let names = [3, 7, 11].map(|n| format!("probe/{n:02}/reading"));
+        let rows = names.map(|name| Row::bytes(name.as_bytes(), b"reading."));
+        Next { image: month_and(3), sheet: sheet(&rows) }
+    }
+
+    /// The slots as they were before the append.
+    pub fn restore(&mut self) {
+        self.image[256 + 32 * ENTRIES..][..96].fill(0);
+    }
+
+    pub fn append(&mut self, library: &dyn Library) {
+        append(library, black_box(&mut self.image), black_box(&self.sheet));
+    }
+
+    pub fn open(&self, library: &dyn Library) {
+        let mut out = [0; 3];
+        assert_eq!(library.open(black_box(&self.image), &mut out), 0);
+        assert_eq!(black_box(out)[2], ENTRIES as u64);
     }
 }
 

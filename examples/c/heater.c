@@ -1,6 +1,6 @@
 /*
  * A regulator's night in an image: make it, append frames, survive a stop, and read the heater's
- * duty of the last frame.
+ * duty of the last frame. Where a file is named, the image is written to it as the stop leaves it.
  */
 #include "dialmoth.h"
 
@@ -100,7 +100,16 @@ static void print_last_duty(void)
     printf("frame %" PRIu64 ": heater duty %" PRIu64 "\n", counts[0] - 1, element[1]);
 }
 
-int main(void)
+static void save(const char *path)
+{
+    FILE *file = fopen(path, "wb");
+    if (file == NULL || fwrite(image, 1, sizeof image, file) != sizeof image || fclose(file) != 0) {
+        perror(path);
+        exit(1);
+    }
+}
+
+int main(int count, char **words)
 {
     static const float evening[3] = {21.5f, 22.25f, 19.0f}, night[3] = {18.5f, 18.75f, 17.5f};
     const uint8_t duty = 40, more = 55;
@@ -120,6 +129,8 @@ int main(void)
     if (append_frame(night, &more, 10))
         return 1;
     print_last_duty();
+    if (count > 1)
+        save(words[1]);
 
     /* The same append is made again, and now to its end. */
     if (!append_frame(night, &more, UINT64_MAX))
