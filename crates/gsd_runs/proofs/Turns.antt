@@ -81,27 +81,29 @@ module _ (sheet img₀ : List ℕ) (p : Plan) (r₀ w₀ limit : ℕ) (img : Lis
     pub run-good : (m : ℕ) → Ready (length img₀) m p → Good (length img) m x
     run-good m g = rw (here, h .long) (g .good r inside)
 
-    -- the rest of the run is made
-    pub run-more : x .words - w ≤ left → Turning sheet img₀ p r₀ w₀ limit (exec sheet img (stepsFrom x w (x .words - w))) (r + 1) 0 (left - (x .words - w))
-    run-more l =
-        let made : limit - (left - (x .words - w)) ≡ limit - left + (x .words - w) = omega (arith, h .free) in
+    -- as many of its words as the limit lets be made
+    pub run-made : (n : ℕ) → n ≡ min left (x .words - w) → Turning sheet img₀ p r₀ w₀ limit (exec sheet img (stepsFrom x w n)) r (w + n) (left - n)
+    run-made n e =
+        let made : limit - (left - n) ≡ limit - left + n = omega (arith, h .free) in
         record {
-          walked = rw (made, ← ahead-next p r (w + (x .words - w)) x here inside (omega arith)) (run-some (x .words - w) (omega arith));
+          walked = rw made (run-some n (omega arith));
           free = omega (arith, h .free);
-          cursor = record { run = omega arith; word = omega arith };
-          long = exec-length sheet img (stepsFrom x w (x .words - w)) ∙ h .long;
+          cursor = record { run = h .cursor .run; word = rw (← here) (omega (arith, run-word)) };
+          long = exec-length sheet img (stepsFrom x w n) ∙ h .long;
         }
 
-    -- the limit ends in the run
-    pub run-stop : left < x .words - w → TurnSays sheet img₀ p r₀ w₀ limit (record { run = r; word = w + left; made = limit }) (exec sheet img (stepsFrom x w left))
-    run-stop l =
-        let made : limit - left + left ≡ limit = omega (arith, h .free) in
-        let walked : Walked sheet img₀ (ahead p r₀ w₀) limit (exec sheet img (stepsFrom x w left)) (ahead p r (w + left)) = rw made at (run-some left (omega arith)) in
-        record {
-          walked = walked;
-          made = omega (arith, walked .within);
-          cursor = record { run = omega arith; word = rw (← here) (omega arith) };
-        }
+    -- the run is made
+    pub run-over : x .words ≤ w → Turning sheet img₀ p r₀ w₀ limit img (r + 1) 0 left
+    run-over l = record {
+      walked = rw (← ahead-next p r w x here inside l) (h .walked);
+      free = h .free;
+      cursor = record { run = omega arith; word = omega arith };
+      long = h .long;
+    }
+
+  -- the limit is reached
+  pub turn-stop : left ≡ 0 → TurnSays sheet img₀ p r₀ w₀ limit (record { run = r; word = w; made = limit - left }) img
+  turn-stop e = record { walked = h .walked; made = omega (arith, h .free, h .walked .within); cursor = h .cursor }
 
   -- all runs are made
   pub turn-end : length (runsOf p) ≤ r → TurnSays sheet img₀ p r₀ w₀ limit (record { run = r; word = 0; made = limit - left }) img

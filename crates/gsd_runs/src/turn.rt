@@ -1,11 +1,12 @@
 // The loop over the runs of a plan.
 use crate::plan::Plan;
 use crate::plan::run_at;
+use crate::run::Run;
 use crate::run::stores;
 ghost use mathlib.Core.Path.{_≡_};
-ghost use Prim.Native.Nat.{_+_, _*_, _<_};
+ghost use Prim.Native.Nat.{_+_, _-_, _*_, _≤_, _<_, min};
 ghost use lib.ListN.{length};
-ghost use Rattle.gsd_runs.specs.Exec.{steps};
+ghost use Rattle.gsd_runs.specs.Exec.{Good, stepsFrom, steps, exec};
 ghost use Rattle.gsd_runs.specs.Runs.{runsOf, Ready, half};
 ghost use Rattle.gsd_runs.specs.Turns.{Cursor, TurnSays};
 
@@ -14,6 +15,22 @@ pub struct Turned {
     pub run: usize,
     pub word: usize,
     pub made: u64,
+}
+
+fn at_most(n: usize, left: u64) -> usize
+    ensures { λ r. ⌜ r ≡ min left n ⌝ }
+{
+    if left < n as u64 { left as usize } else { n }
+}
+
+// The stores of a run from word w on, at most `left` of them: how many were made.
+fn some_stores(image: &mut [u8], sheet: &[u8], run: Run, w: usize, left: u64) -> usize
+    requires { ⌜ Good (length (now image)) (length (now sheet)) run × (w ≤ run .words) ⌝ }
+    ensures { λ n. ⌜ (n ≡ min left (run .words - w)) × (now (image .exit) ≡ exec (now (sheet .entry)) (now (image .entry)) (stepsFrom run w n)) ⌝ }
+{
+    let n = at_most(run.words - w, left);
+    stores(image, sheet, run, w, n);
+    n
 }
 
 // The next stores of a plan from a cursor on, as many as the limit lets be made.
@@ -50,18 +67,16 @@ pub fn turn(
             &plan.location,
             r,
         );
-        let here = x.words - w;
-        if left < here as u64 {
-            let some = left as usize;
-            stores(image, sheet, x, w, some);
+        let n = some_stores(image, sheet, x, w, left);
+        w += n;
+        left -= n as u64;
+        if w < x.words {
             return Turned {
                 run: r,
-                word: w + some,
-                made: limit,
+                word: w,
+                made: limit - left,
             };
         }
-        stores(image, sheet, x, w, here);
-        left -= here as u64;
         r += 1;
         w = 0;
     }
