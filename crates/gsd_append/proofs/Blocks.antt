@@ -19,8 +19,9 @@ use Rattle.gsd_stores.proofs.View.{Base, IndexClear, Stage}
 use Rattle.gsd_stores.proofs.Clear.{clear-index, clear-names}
 use Rattle.gsd_runs.specs.declared.run.Run.{Run}
 use Rattle.gsd_runs.specs.Exec.{placeOf, wordOf, stepsFrom, steps, storesOf}
-use Rattle.gsd_runs.specs.Runs.{Heads, number, clears}
-use Rattle.gsd_append.specs.Matches.{copied, ifMoved, endWord, wordsBehind, HeadsMatch}
+use Rattle.gsd_runs.specs.Runs.{Heads, number, clears, copied}
+use Rattle.gsd_parts.specs.Sites.{ifMoved}
+use Rattle.gsd_append.specs.Matches.{endWord, wordsBehind, HeadsMatch}
 use Rattle.gsd_runs.proofs.Words.{cut-before, cut-behind, place-other, word-number}
 use Rattle.gsd_append.proofs.Octets.{no-octets}
 use Rattle.gsd_append.proofs.RunWords.{number-stores, copied-stores}

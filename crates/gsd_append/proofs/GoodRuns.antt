@@ -24,8 +24,9 @@ use Rattle.gsd_stores.proofs.Whole.{block-even}
 use Rattle.gsd_runs.specs.declared.run.Run.{Run}
 use Rattle.gsd_runs.specs.declared.plan.Plan.{Plan}
 use Rattle.gsd_runs.specs.Exec.{Good, steps}
-use Rattle.gsd_runs.specs.Runs.{number, none, body, name, bodyRun, nameRun, ofFour, entryRun, tab, clears, block, slots, runsOf, Ready, headsFrom}
-use Rattle.gsd_append.specs.Matches.{copied, ifMoved, nameWords, HeadsMatch, NameMatch, Matches}
+use Rattle.gsd_runs.specs.Runs.{number, none, body, name, bodyRun, nameRun, ofFour, entryRun, tab, clears, block, slots, runsOf, Ready, headsFrom, copied}
+use Rattle.gsd_parts.specs.Sites.{ifMoved}
+use Rattle.gsd_append.specs.Matches.{nameWords, HeadsMatch, NameMatch, Matches}
 use Rattle.gsd_runs.proofs.Steps.{stepsFrom-length}
 use Rattle.gsd_runs.proofs.Runs.{runs-length}
 use Rattle.gsd_append.proofs.Blocks.{moveRuns}

@@ -8,12 +8,7 @@ pub mod StoreList
 pub mod GoodRuns
 pub mod Appends
 -- the plan that the code makes matches
-pub mod Growing
-pub mod Laying
 pub mod SitesMatch
-pub mod Filling
-pub mod RowIds
-pub mod Sorting
 pub mod EntryOrder
 pub mod Assembly
 pub mod PlanMatch

@@ -14,8 +14,7 @@ use Rattle.gsd_stores.specs.Stores.{eightOf, words, up, down}
 use Rattle.gsd_stores.proofs.Stores.{eight-at}
 use Rattle.gsd_runs.specs.declared.run.Run.{Run}
 use Rattle.gsd_runs.specs.Exec.{placeOf, over, wordOf, applied, stepsFrom, steps, storesOf}
-use Rattle.gsd_runs.specs.Runs.{number, body, name}
-use Rattle.gsd_append.specs.Matches.{copied}
+use Rattle.gsd_runs.specs.Runs.{number, body, name, copied}
 use Rattle.gsd_runs.proofs.Words.{cut-before, cut-behind, place-name, place-other, source-name, source-other}
 use Rattle.gsd_runs.proofs.Words.{text-image, text-sheet, text-name, word-number, word-read}
 

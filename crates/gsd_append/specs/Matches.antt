@@ -2,7 +2,6 @@
 -- image, p is what it is to do.
 use Prim.Native.Nat.{ℕ, suc, _+_, _*_, _-_, _/_, _<_, min}
 use mathlib.Core.Path.{_≡_}
-use mathlib.Core.Bool.{Bool, cond}
 use mathlib.Core.List.{List, [], _++_}
 use lib.ListN.{getD, length, take}
 use Rattle.gsd_format.specs.declared.Entry.{Entry}
@@ -16,17 +15,9 @@ use Rattle.gsd_stores.specs.Steps.{nameBlock, indexBlock}
 use Rattle.gsd_stores.specs.Demand3.{noRow}
 use Rattle.gsd_stores.proofs.Sheet.{nameAt, bodyAt}
 use Rattle.gsd_stores.proofs.Rows.{bodyOffset}
-use Rattle.gsd_runs.specs.declared.run.Run.{Run}
 use Rattle.gsd_runs.specs.declared.plan.Plan.{Plan}
-use Rattle.gsd_runs.specs.Runs.{Heads, headsFrom, number, none}
-
--- n words copied within the image, those behind `until` as zeros
-abbrev pub copied : ℕ → ℕ → ℕ → ℕ → Run
-copied to n from until = record { kind = 0; to = to; words = n; from = from; until = until; value = 0 }
-
--- a run that a block's move needs
-abbrev pub ifMoved : Bool → Run → Run
-ifMoved moves r = cond moves r none
+use Rattle.gsd_runs.specs.Runs.{Heads, headsFrom, number, copied}
+use Rattle.gsd_parts.specs.Sites.{ifMoved}
 
 -- the word that holds the name list's end, and the words from there to the name block's end; the words that hold the names
 abbrev pub endWord : View → ℕ

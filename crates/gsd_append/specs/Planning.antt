@@ -1,26 +1,25 @@
 -- What the planner goes by, step by step, and what it answers.
 use Prim.Native.Nat.{ℕ, _+_, _*_, _-_, _/_, _%_, _≤_, _<_}
 use mathlib.Core.Path.{_≡_}
-use mathlib.Core.Bool.{true, cond}
+use mathlib.Core.Bool.{cond}
 use mathlib.Core.List.{List}
 use lib.ListN.{length, getD}
-use Rattle.gsd_format.specs.declared.Layout.{Layout}
 use Rattle.gsd_format.specs.Header.{greatestLength}
 use Rattle.gsd_format.specs.Entries.{framesOf, chunksEnd}
 use Rattle.gsd_format.specs.Opening.{verdict}
-use Rattle.gsd_stores.specs.View.{viewOf, indexEnd, namelistEnd, namesEnd}
+use Rattle.gsd_stores.specs.View.{viewOf, namesEnd}
 use Rattle.gsd_stores.specs.Sheet.{rowCount, rowsOf, sheetTest}
 use Rattle.gsd_stores.specs.Plan.{Plan as Defined, planOf}
 use Rattle.gsd_stores.proofs.Sheet.{rowAt}
 use Rattle.gsd_runs.specs.declared.plan.Plan.{Plan}
-use Rattle.gsd_append.specs.declared.sites.Sites.{Sites}
-use Rattle.gsd_append.specs.declared.fill.BodyPlaces.{BodyPlaces}
-use Rattle.gsd_append.specs.declared.ids.Ids.{Ids}
+use Rattle.gsd_parts.specs.declared.sites.Sites.{Sites}
+use Rattle.gsd_parts.specs.declared.fill.BodyPlaces.{BodyPlaces}
+use Rattle.gsd_parts.specs.declared.ids.Ids.{Ids}
 use Rattle.gsd_append.specs.declared.planner.Seen.{Seen}
 use Rattle.gsd_append.specs.declared.planner.Planning.{Planning}
 use Rattle.gsd_sheet.specs.Rows.{Located}
-use Rattle.gsd_append.specs.RowIds.{IdsFound}
-use Rattle.gsd_append.specs.Filling.{NamesPlaced, EntriesFilled}
+use Rattle.gsd_parts.specs.RowIds.{IdsFound}
+use Rattle.gsd_parts.specs.Filling.{NamesPlaced, EntriesFilled}
 use Rattle.gsd_append.specs.Matches.{Matches}
 
 -- what the append is to do
@@ -42,20 +41,6 @@ pub record Asked (x sheet names bodies : List ℕ) (count : ℕ) (ids : Ids) : T
   pub located : Located sheet names bodies
   pub counted : count ≡ rowCount sheet
   pub found : IdsFound (viewOf x .names) (rowsOf sheet) ids
-
--- what the runs that are there once need of the layout, the lists' ends and the sites
-pub record Sited (l : Layout) (entries end : ℕ) (s : Sites) : Type 0 where
-  pub index : indexEnd l ≤ greatestLength
-  pub names : namelistEnd l ≤ greatestLength
-  pub few : entries ≤ l .slots
-  pub low : l .namelist ≤ end
-  pub high : end ≤ namelistEnd l
-  pub body : s .body < 1152921504606846976
-  pub segments : s .segments < 1152921504606846976
-  pub grownNames : s .«names_move» ≡ true → end ≤ l .namelist + 64 * s .segments
-  pub behind : s .names < 1152921504606846976
-  pub slots : s .slots < 1152921504606846976
-  pub grownIndex : s .«index_moves» ≡ true → entries ≤ s .slots
 
 -- where the first new name and the first new entry go
 abbrev pub firstName : Seen → Sites → ℕ

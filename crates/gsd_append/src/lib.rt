@@ -1,9 +1,5 @@
 // The append: its stores made one after the other on the image.
-mod fill;
-mod ids;
-mod order;
 mod planner;
-mod sites;
 
 use gsd_runs::turn;
 use gsd_stores::Appended;

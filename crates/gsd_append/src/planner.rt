@@ -1,19 +1,16 @@
 // The plan of an append: everything is tested and every place and number found before the first store.
-use crate::fill::BodyPlaces;
-use crate::fill::fill_entries;
-use crate::fill::place_bodies;
-use crate::fill::place_names;
-use crate::ids::Ids;
-use crate::ids::find_ids;
-use crate::order::sort;
-use crate::sites::Sites;
-use crate::sites::clear_runs;
-use crate::sites::end_of_use;
-use crate::sites::find_sites;
-use crate::sites::index_block;
-use crate::sites::lay_heads;
-use crate::sites::name_block;
 use gsd_format::Layout;
+use gsd_parts::fill::BodyPlaces;
+use gsd_parts::fill::fill_entries;
+use gsd_parts::fill::place_bodies;
+use gsd_parts::fill::place_names;
+use gsd_parts::ids::Ids;
+use gsd_parts::ids::find_ids;
+use gsd_parts::order::sort;
+use gsd_parts::sites::Sites;
+use gsd_parts::sites::end_of_use;
+use gsd_parts::sites::find_sites;
+use gsd_parts::sites::heads_for;
 use gsd_read::survey_of;
 use gsd_runs::Plan;
 use gsd_sheet::sheet_rows;
@@ -29,10 +26,8 @@ ghost use Rattle.gsd_stores.specs.Sheet.{rowCount, sheetTest};
 ghost use Rattle.gsd_stores.specs.Plan.{finalPosition};
 ghost use Rattle.gsd_stores.specs.Append.{planTest, appendTest};
 ghost use Rattle.gsd_read.specs.NameLists.{namesIn, Spans};
-ghost use Rattle.gsd_runs.specs.Runs.{headsFrom};
 ghost use Rattle.gsd_sheet.specs.Rows.{Located};
-ghost use Rattle.gsd_append.specs.Sites.{clearsOf, nameBlockOf, indexBlockOf, headsOf};
-ghost use Rattle.gsd_append.specs.Planning.{planned, Sees, Asked, Sited, Joinable, Joined, Plans};
+ghost use Rattle.gsd_append.specs.Planning.{planned, Sees, Asked, Joinable, Joined, Plans};
 
 // What the append sees of an image: its layout, the counts of entries and frames, and the ends of names and chunks.
 pub struct Seen {
@@ -71,16 +66,6 @@ fn refused(number: u64) -> Planning
             location: [0; 64],
         },
     }
-}
-
-fn heads_for(l: Layout, entries: usize, end: usize, s: Sites) -> [u64; 66]
-    requires { ⌜ Sited l entries end s ⌝ }
-    ensures { λ r. ⌜ headsFrom r ≡ headsOf (clearsOf l entries end) (nameBlockOf l end s) (indexBlockOf l entries s) ⌝ }
-{
-    let clears = clear_runs(l, entries, end);
-    let names = name_block(l, end, s);
-    let index = index_block(l, entries, s);
-    lay_heads(clears, names, index)
 }
 
 fn chosen(moves: bool, new: u64, old: u64) -> u64

@@ -13,6 +13,10 @@ number to n v = record { kind = 2; to = to; words = n; from = 0; until = 0; valu
 abbrev pub none : Run
 none = number 0 0 0
 
+-- n words copied within the image, those behind `until` as zeros
+abbrev pub copied : ℕ → ℕ → ℕ → ℕ → Run
+copied to n from until = record { kind = 0; to = to; words = n; from = from; until = until; value = 0 }
+
 -- a row's data, padded with zeros
 abbrev pub body : ℕ → ℕ → ℕ → Run
 body to from until = record { kind = 1; to = to; words = (until - from + 7) / 8; from = from; until = until; value = 0 }

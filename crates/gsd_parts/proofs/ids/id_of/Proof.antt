@@ -1,0 +1,25 @@
+-- `gsd_parts::ids::id_of` meets its contract.
+use mathlib.Core.Path.{_∙_}
+use borrow.Author.Needs.{needs}
+use Rattle.gsd_read.proofs.NameLists.{id-listed}
+use Rattle.gsd_parts.proofs.ids.id_of.Statement.{statement}
+use Rattle.gsd_parts.proofs.ids.id_of.Tie as tie
+
+sub-name-id : tie.Need-sub-name-id
+sub-name-id c = search needs
+
+part-name-id-start : tie.Need-part-name-id-start
+part-name-id-start c = search needs
+
+part-name-id-end : tie.Need-part-name-id-end
+part-name-id-end c = search needs
+
+name-id-requires : tie.Need-name-id-requires
+name-id-requires c κs = search needs
+
+returns : tie.Need-returns
+returns c = c .name-id .ensures ∙ id-listed _ _ _ _ (c .before .before .before .before .pre .0)
+
+pub id-of-spec : {M : Type 1} → statement M
+id-of-spec =
+    tie.close (tie.spec sub-name-id part-name-id-start part-name-id-end name-id-requires returns)

@@ -1,0 +1,104 @@
+// The plan's arrays: where data and new names go, and the numbers of the new entries.
+ghost use Prim.Native.Nat.{ℕ, _+_, _*_, _/_, _%_, _≤_, _<_};
+ghost use lib.ListN.{length, getD};
+ghost use Rattle.gsd_stores.proofs.Sheet.{rowAt};
+ghost use Rattle.gsd_parts.specs.Filling.{Laid, BodiesPlaced, NamesPlaced, EntriesFilled};
+use gsd_sheet::row_kind;
+use gsd_sheet::row_m;
+use gsd_sheet::row_n;
+
+pub struct BodyPlaces {
+    pub to: [usize; 64],
+    pub until: [usize; 64],
+    pub end: usize,
+}
+
+// Row by row from start on, each padded to a word.
+pub fn place_bodies(
+    names: &[usize; 65],
+    bodies: &[usize; 64],
+    count: usize,
+    start: usize,
+) -> BodyPlaces
+    requires { ⌜ Laid (now names) (now bodies) count × (start < 4611686018427387904) ⌝ }
+    ensures { λ r. ⌜ BodiesPlaced (now (names .entry)) (now (bodies .entry)) count start r ⌝ }
+{
+    let mut to = [0usize; 64];
+    let mut until = [0usize; 64];
+    let mut at = start;
+    let mut i = 0;
+    while i < count {
+        let next = names[i + 1];
+        to[i] = at;
+        until[i] = next;
+        at = at + (next - bodies[i] + 7) / 8 * 8;
+        i += 1;
+    }
+    BodyPlaces { to, until, end: at }
+}
+
+pub struct NamePlaces {
+    pub at: [usize; 64],
+    pub from: [usize; 64],
+    pub until: [usize; 64],
+}
+
+// The new names one behind the other from first on, each with its zero. rows[j] is the j-th one's row.
+pub fn place_names(
+    names: &[usize; 65],
+    bodies: &[usize; 64],
+    rows: &[usize; 64],
+    fresh: usize,
+    first: usize,
+) -> NamePlaces
+    requires { ⌜ (fresh ≤ 64) × (first < 4611686018427387904) × ((j : ℕ) → j < fresh → getD (now rows) j 0 < 64)
+        × ((j : ℕ) → j < fresh → getD (now names) (getD (now rows) j 0) 0 ≤ getD (now bodies) (getD (now rows) j 0) 0)
+        × ((j : ℕ) → j < fresh → getD (now bodies) (getD (now rows) j 0) 0 < getD (now names) (getD (now rows) j 0) 0 + 256) ⌝ }
+    ensures { λ r. ⌜ NamesPlaced (now (names .entry)) (now (bodies .entry)) (now (rows .entry)) fresh first r ⌝ }
+{
+    let mut at = [0usize; 64];
+    let mut from = [0usize; 64];
+    let mut until = [0usize; 64];
+    let mut next = first;
+    let mut j = 0;
+    while j < fresh {
+        let row = rows[j];
+        let name = names[row];
+        let end = bodies[row];
+        at[j] = next;
+        from[j] = name;
+        until[j] = end;
+        next = next + (end - name) + 1;
+        j += 1;
+    }
+    NamePlaces { at, from, until }
+}
+
+pub struct EntryNumbers {
+    pub n: [u64; 64],
+    pub meta: [u64; 64],
+    pub location: [u64; 64],
+}
+
+// order[s] is 64 times the id, plus the row, of the entry in slot s; to[row] is where that row's data go.
+pub fn fill_entries(sheet: &[u8], order: &[u64; 64], to: &[usize; 64], count: usize) -> EntryNumbers
+    requires { ⌜ (count ≤ 64) × (rowAt count ≤ length (now sheet)) × ((s : ℕ) → s < count → getD (now order) s 0 % 64 < count)
+        × ((s : ℕ) → s < count → getD (now order) s 0 / 64 < 65536) ⌝ }
+    ensures { λ r. ⌜ EntriesFilled (now (sheet .entry)) (now (order .entry)) (now (to .entry)) count r ⌝ }
+{
+    let mut n = [0u64; 64];
+    let mut meta = [0u64; 64];
+    let mut location = [0u64; 64];
+    let mut s = 0;
+    while s < count {
+        let packed = order[s];
+        let row = (packed % 64) as usize;
+        n[s] = row_n(sheet, row);
+        meta[s] = row_m(sheet, row)
+            + 4294967296 * (packed / 64)
+            + 281474976710656 * gsd_bytes::wide(row_kind(sheet, row));
+        location[s] = to[row] as u64;
+        s += 1;
+    }
+    EntryNumbers { n, meta, location }
+}
