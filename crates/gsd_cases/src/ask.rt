@@ -2,7 +2,6 @@
 use crate::build::chunk;
 use gsd_format::Element;
 use gsd_format::Entry;
-use gsd_format::Layout;
 use gsd_format::Listed;
 use gsd_format::Opening;
 use gsd_format::Place;
@@ -66,22 +65,6 @@ pub fn float_bits(image: &[u8; 4096], name: &[u8], k: u64) -> u64 {
     }
 }
 
-pub fn layout(image: &[u8]) -> Layout {
-    let mut starts = [0u32; 1025];
-    let s = gsd_read::survey_of(image, &mut starts);
-    s.layout
-}
-
-pub fn slots(image: &[u8; 4096]) -> u64 {
-    let l = layout(image);
-    l.slots
-}
-
-pub fn segments(image: &[u8; 4096]) -> u64 {
-    let l = layout(image);
-    l.segments
-}
-
 pub fn nth_entry(image: &[u8; 4096], n: u64) -> Entry {
     match gsd_read::entry(image, n) {
         Listed::Found(e) => e,
@@ -98,28 +81,21 @@ pub fn word(image: &[u8; 4096], at: usize) -> u64 {
     gsd_bytes::u64_at(image, at)
 }
 
-pub fn has(image: &[u8; 4096], at: usize, text: &[u8]) -> bool {
+// 1 where the text stands there, 1 where two images differ, else 0.
+
+pub fn has(image: &[u8; 4096], at: usize, text: &[u8]) -> u64 {
     if 4096 < at {
-        return false;
+        return 0;
     }
     if 4096 - at < text.len() {
-        return false;
+        return 0;
     }
-    gsd_bytes::same_part(image, at, text, 0, text.len())
+    gsd_bytes::same_part(image, at, text, 0, text.len()) as u64
 }
 
-// 1 where two images differ.
 pub fn changed(before: &[u8; 4096], after: &[u8; 4096]) -> u64 {
     if gsd_bytes::same_part(before, 0, after, 0, 4096) {
         return 0;
     }
     1
-}
-
-pub fn chunk_is(image: &[u8; 4096], frame: u64, name: &[u8], expected: &[u8]) -> bool {
-    check::same(gsd_read::chunk(image, frame, name), expected)
-}
-
-pub fn name_is(image: &[u8; 4096], n: u64, expected: &[u8]) -> bool {
-    check::same(gsd_read::name_bytes(image, n), expected)
 }

@@ -35,21 +35,19 @@ pub fn put_text(image: &mut [u8; 4096], at: usize, text: &[u8]) {
     gsd_bytes::put_text(image, at, text);
 }
 
+// M, the id, the type and the flags of an entry, as its last word.
+fn last_word(e: Entry) -> u64 {
+    e.m as u64
+        + 4294967296 * (e.id as u64)
+        + 281474976710656 * (e.kind as u64)
+        + 72057594037927936 * (e.flags as u64)
+}
+
 pub fn put_entry(image: &mut [u8; 4096], at: usize, e: Entry) {
-    if 4064 < at {
-        return;
-    }
     put_word(image, at, e.frame);
-    put_word(image, at + 8, e.n);
-    put_word(image, at + 16, e.location);
-    put_word(
-        image,
-        at + 24,
-        e.m as u64
-            + 4294967296 * (e.id as u64)
-            + 281474976710656 * (e.kind as u64)
-            + 72057594037927936 * (e.flags as u64),
-    );
+    put_word(image, std::num::wrapping_add_usize(at, 8), e.n);
+    put_word(image, std::num::wrapping_add_usize(at, 16), e.location);
+    put_word(image, std::num::wrapping_add_usize(at, 24), last_word(e));
 }
 
 // A block's place and count, at its two words of the header: from 8 the index block's, from 24 the name block's.

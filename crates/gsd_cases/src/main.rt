@@ -235,11 +235,14 @@ fn elements(t: Tally) -> Tally {
         ask::float_bits(&image, b"probe", 2),
         1100873728,
     );
-    let t = t.with(
+    t.with(
         b"paper, element 3 of probe",
         ask::element(&image, b"probe", 3),
         43,
-    );
+    )
+}
+
+fn element_numbers(t: Tally) -> Tally {
     let t = t.with(
         b"element 0 of N 2^64-1, M 0",
         element_with(18446744073709551615, 0, 1, 0),
@@ -280,17 +283,13 @@ fn short_slices(t: Tally) -> Tally {
     )
 }
 
-fn defaults(t: Tally) -> Tally {
-    let image = fresh(0, 1);
-    let t = t.with(b"0 slots and 1 segment, slots", ask::slots(&image), 64);
-    let t = t.with(b"0 slots and 1 segment, segments", ask::segments(&image), 1);
-    let image = fresh(2, 0);
-    let t = t.with(b"2 slots and 0 segments, slots", ask::slots(&image), 2);
-    t.with(
-        b"2 slots and 0 segments, segments",
-        ask::segments(&image),
-        16,
-    )
+// The counts asked for, and those of the image.
+fn made(t: Tally, slots: u64, segments: u64, made_slots: u64, made_segments: u64) -> Tally {
+    let image = fresh(slots, segments);
+    let t = t.case(b"create").said(b", slots ", slots);
+    let t = t.answer(b": ", ask::word(&image, 16), made_slots);
+    let t = t.said(b", segments ", segments);
+    t.answer(b": ", ask::word(&image, 32), made_segments).end()
 }
 
 fn main() {
@@ -306,8 +305,10 @@ fn main() {
     let t = entry_lists(t);
     let t = odd_names(t);
     let t = elements(t);
+    let t = element_numbers(t);
     let t = short_slices(t);
-    let t = defaults(t);
+    let t = made(t, 0, 1, 64, 1);
+    let t = made(t, 2, 0, 2, 16);
     let t = limits::worked(t);
     let t = places::places(t);
     let t = stores::stores(t);

@@ -8,11 +8,11 @@ use crate::sheet::Sheet;
 use crate::sheet::nothing;
 use crate::sheet::sheet_a;
 use crate::sheet::table;
-use crate::shown::all;
+use crate::shown::Shown;
 use crate::shown::append;
+use crate::shown::leaves;
 use crate::shown::refuses;
 use crate::shown::shows;
-use crate::shown::stopped;
 use crate::tally::Tally;
 
 fn many(count: u16) -> Sheet {
@@ -36,104 +36,74 @@ fn counts(t: Tally) -> Tally {
         &mut image,
         4096,
         many(64),
-        all(776, 1, 64, 64, 3840),
+        leaves(776, 776, 1, 64, 64, 3840),
     )
 }
 
 // Each number is tested over all rows before the next.
 
-fn tables(t: Tally) -> Tally {
+fn untyped() -> Sheet {
+    table(2).with_row(b"a", 1, 9, b"").with_row(b"b", 0, 0, b"")
+}
+
+fn unnamed() -> Sheet {
+    table(3).with(b"a", b"").with(b"a", b"").with(b"\x00", b"")
+}
+
+fn refusals(t: Tally) -> Tally {
     let image = fresh(2, 1);
     let t = refuses(t, b"65 rows in 4 bytes", image, 1024, table(65).cut(4), 22);
-    let t = refuses(t, b"64 rows in 4 bytes", image, 1024, table(64).cut(4), 23);
-    let rows = table(2).with_row(b"a", 1, 9, b"").with_row(b"b", 0, 0, b"");
-    refuses(
+    let t = refuses(
         t,
         b"data too short, then an unknown type",
         image,
         1024,
-        rows,
+        untyped(),
         24,
-    )
-}
-
-fn bodies(t: Tally) -> Tally {
-    let image = fresh(2, 1);
-    let rows = table(2).with(b"\x00", b"").with_row(b"a", 1, 9, b"");
-    let t = refuses(
-        t,
-        b"a zero in a name, then data too short",
-        image,
-        1024,
-        rows,
-        25,
     );
-    let twice = table(3).with(b"a", b"").with(b"a", b"");
-    let t = refuses(
+    refuses(
         t,
         b"two rows with one name, then a zero in a name",
         image,
         1024,
-        twice.with(b"b\x00", b""),
+        unnamed(),
         26,
-    );
-    refuses(
-        t,
-        b"two rows with one name",
-        image,
-        1024,
-        twice.with(b"b", b""),
-        27,
     )
 }
 
 // Data and new ids go by row, entries by id, and the entry with the highest id is stored first.
 
-fn unordered() -> Sheet {
-    table(3)
+fn unordered(t: Tally, image: &mut [u8; 4096], expected: Shown) -> Tally {
+    let rows = table(3)
         .with(b"heater", b"1")
         .with(b"fan", b"2")
-        .with(b"probe", b"3")
+        .with(b"probe", b"3");
+    shows(t, b"heater, fan and probe", image, 1024, rows, expected)
 }
 
 fn order(t: Tally) -> Tally {
     let mut image = sample();
-    let t = shows(
-        t,
-        b"rows heater, fan, probe",
-        &mut image,
-        1024,
-        unordered(),
-        all(48, 2, 3, 4, 552),
+    let t = unordered(t, &mut image, leaves(48, 48, 2, 3, 4, 552));
+    let t = t.with(
+        b"names by row",
+        ask::has(&image, 320, b"probe\x00heater\x00fan\x00"),
+        1,
     );
-    let t = t.holds(b"name 1 is heater", ask::name_is(&image, 1, b"heater"));
     let t = t.with(
         b"location of probe, id 0",
         ask::nth_entry(&image, 1).location,
         416,
     );
-    let t = t.with(
+    t.with(
         b"location of heater, id 1",
         ask::nth_entry(&image, 2).location,
         400,
-    );
-    t.with(
-        b"location of fan, id 2",
-        ask::nth_entry(&image, 3).location,
-        408,
     )
 }
 
 fn order_of_stores(t: Tally) -> Tally {
     let mut image = sample();
-    let t = shows(
-        t,
-        b"rows heater, fan, probe",
-        &mut image,
-        1024,
-        unordered(),
-        stopped(40, 48, 1, 3, 1, 552),
-    );
+    let t = unordered(t, &mut image, leaves(40, 48, 1, 3, 1, 552));
     let t = t.with(b"location in fan's slot", ask::word(&image, 536), 408);
     t.with(b"location in heater's slot", ask::word(&image, 504), 0)
 }
@@ -149,35 +119,35 @@ fn existing(t: Tally) -> Tally {
         &mut image,
         1024,
         sheet_a(),
-        all(22, 1, 1, 1, 400),
+        leaves(22, 22, 1, 1, 1, 400),
     )
 }
 
 fn existing_1024(t: Tally) -> Tally {
+    let zz = nothing(b"zz");
     let mut image = named(1023, b"");
     let t = shows(
         t,
-        b"row zz behind 1023 names",
+        b"zz behind 1023 names",
         &mut image,
         4096,
-        nothing(b"zz"),
-        stopped(14, 18, 0, 1024, 0, 3424),
+        zz,
+        leaves(14, 18, 0, 1024, 0, 3424),
     );
-    let t = refuses(t, b"row yy after it", image, 4096, nothing(b"yy"), 28);
+    let t = refuses(t, b"yy after it", image, 4096, nothing(b"yy"), 28);
     shows(
         t,
-        b"row zz after it",
+        b"zz after it",
         &mut image,
         4096,
-        nothing(b"zz"),
-        all(16, 1, 1024, 1, 3424),
+        zz,
+        leaves(16, 16, 1, 1024, 1, 3424),
     )
 }
 
 pub fn rows(t: Tally) -> Tally {
     let t = counts(t);
-    let t = tables(t);
-    let t = bodies(t);
+    let t = refusals(t);
     let t = order(t);
     let t = order_of_stores(t);
     let t = existing(t);

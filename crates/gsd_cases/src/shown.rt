@@ -1,6 +1,5 @@
 // An append run on an image, and what it answers and leaves: the counts that opening then answers, and the end of use.
 use crate::ask::changed;
-use crate::ask::layout;
 use crate::build::first;
 use crate::build::within;
 use crate::sheet::Sheet;
@@ -20,7 +19,7 @@ pub struct Shown {
     pub end: u64,
 }
 
-pub fn stopped(done: u64, whole: u64, frames: u64, names: u64, entries: u64, end: u64) -> Shown {
+pub fn leaves(done: u64, whole: u64, frames: u64, names: u64, entries: u64, end: u64) -> Shown {
     Shown {
         done,
         whole,
@@ -29,10 +28,6 @@ pub fn stopped(done: u64, whole: u64, frames: u64, names: u64, entries: u64, end
         entries,
         end,
     }
-}
-
-pub fn all(whole: u64, frames: u64, names: u64, entries: u64, end: u64) -> Shown {
-    stopped(whole, whole, frames, names, entries, end)
 }
 
 // The end of use.
@@ -55,7 +50,9 @@ fn few(count: u64) -> u64
 }
 
 fn blocks_end(image: &[u8]) -> u64 {
-    let l = layout(image);
+    let mut starts = [0u32; 1025];
+    let s = gsd_read::survey_of(image, &mut starts);
+    let l = s.layout;
     greater(
         std::num::wrapping_add_u64(l.index, 32 * few(l.slots)),
         std::num::wrapping_add_u64(l.namelist, 64 * few(l.segments)),
@@ -120,7 +117,7 @@ fn opened(image: &[u8], answered: Appended) -> Shown {
             entries: counts.entries,
             end: end_of_use(image, counts.entries),
         },
-        Opening::Refused(_) => all(0, 0, 0, 0, 0),
+        Opening::Refused(_) => leaves(0, 0, 0, 0, 0, 0),
     }
 }
 
@@ -144,11 +141,12 @@ pub fn shows(
 ) -> Tally {
     let answered = append(image, len, sheet, expected.done);
     let got = opened(first(image, len), answered);
-    let t = t.case(says).said(b", limit ", expected.done);
+    let t = t.case(says).said(b" in ", len as u64);
+    let t = t.said(b" bytes, limit ", expected.done);
     compared(t, got, expected)
 }
 
-// An append that is refused with this number, reports 0 and 0, and changes nothing.
+// An append without a limit that is refused with this number and changes nothing.
 pub fn refuses(
     t: Tally,
     says: &[u8],
@@ -159,8 +157,8 @@ pub fn refuses(
 ) -> Tally {
     let mut after = image;
     let got = append(&mut after, len, sheet, 18446744073709551615);
-    let t = t.case(says).answer(b": refused ", got.number, number);
-    let t = t.answer(b", done ", got.done, 0);
+    let t = t.case(says).said(b" in ", len as u64);
+    let t = t.answer(b" bytes: refused ", got.number, number);
     let t = t.answer(b", whole ", got.whole, 0);
     t.answer(b", changed ", changed(&image, &after), 0).end()
 }

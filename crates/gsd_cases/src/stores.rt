@@ -1,4 +1,4 @@
-// What the stores of an append are: clears, names, entries, and what a limit counts.
+// What the stores of an append are: clears, names and entries byte for byte, and what a limit counts.
 use crate::ask;
 use crate::build::first;
 use crate::build::fresh;
@@ -12,14 +12,12 @@ use crate::sheet::sheet_a;
 use crate::sheet::sheet_b;
 use crate::sheet::table;
 use crate::shown::Shown;
-use crate::shown::all;
 use crate::shown::append;
+use crate::shown::leaves;
 use crate::shown::shows;
-use crate::shown::stopped;
 use crate::tally::Tally;
 
-// The clears are made also in blocks that the append leaves.
-
+// The sample with a slot and name bytes that something left behind the lists.
 fn leftovers() -> [u8; 4096] {
     let rest = [120u8; 57];
     let mut image = sample();
@@ -29,6 +27,7 @@ fn leftovers() -> [u8; 4096] {
     image
 }
 
+// The clears are made also in the index block that sheet B leaves.
 fn clears(t: Tally) -> Tally {
     let zeros = [0u8; 58];
     let mut image = leftovers();
@@ -38,28 +37,17 @@ fn clears(t: Tally) -> Tally {
         &mut image,
         1024,
         sheet_b(),
-        stopped(12, 43, 1, 1, 1, 400),
+        leaves(12, 43, 1, 1, 1, 400),
     );
-    let t = t.holds(
-        b"the slot behind the list is cleared",
+    let t = t.with(
+        b"zeros behind the entries",
         ask::has(&image, 288, first(&zeros, 32)),
+        1,
     );
-    let t = t.holds(
-        b"the names' bytes behind the list are cleared",
-        ask::has(&image, 326, &zeros),
-    );
-    shows(
-        t,
-        b"sheet B again",
-        &mut image,
-        1024,
-        sheet_b(),
-        all(43, 2, 2, 3, 552),
-    )
+    t.with(b"zeros behind the names", ask::has(&image, 326, &zeros), 1)
 }
 
-// The bytes of a name block of an image without entries, after an append.
-
+// An image with this name block and no entries, and the block's bytes after an append.
 fn names(
     t: Tally,
     before: &[u8],
@@ -71,30 +59,34 @@ fn names(
     let mut image = fresh(2, 1);
     put_text(&mut image, 320, before);
     let t = shows(t, says, &mut image, 1024, sheet, expected);
-    t.holds(
-        b"its name block is as it must be",
+    t.with(
+        b"its name block as it must be",
         ask::has(&image, 320, after),
+        1,
     )
 }
 
+// The word that holds the list's end keeps the bytes before it.
 fn cleared_names(t: Tally) -> Tally {
     let t = names(
         t,
         b"probe\x00\x00\xff\xff",
         nothing(b"probe"),
-        b"the word of the list's end, cleared behind it",
-        stopped(9, 20, 0, 1, 0, 384),
+        b"a list that ends in a word, the word cleared",
+        leaves(9, 20, 0, 1, 0, 384),
         b"probe\x00\x00\x00\xff",
     );
     names(
         t,
         b"seventy\x00\x00\xff\xff\xff\xff\xff\xff\xff\xff",
         nothing(b"seventy"),
-        b"a list that ends with a word, the next word cleared",
-        stopped(9, 19, 0, 1, 0, 384),
+        b"a list that ends with a word, the next one cleared",
+        leaves(9, 19, 0, 1, 0, 384),
         b"seventy\x00\x00\x00\x00\x00\x00\x00\x00\x00\xff",
     )
 }
+
+// A store adds no other name's bytes; a name's higher word goes first.
 
 fn two_names(t: Tally) -> Tally {
     let rows = table(2).with(b"ab", b"").with(b"cd", b"");
@@ -102,84 +94,72 @@ fn two_names(t: Tally) -> Tally {
         t,
         b"",
         rows,
-        b"names ab and cd, the first",
-        stopped(17, 26, 0, 1, 0, 384),
-        b"ab\x00\x00\x00\x00\x00\x00",
+        b"ab and cd",
+        leaves(17, 26, 0, 1, 0, 384),
+        b"ab\x00\x00\x00\x00",
     );
     names(
         t,
         b"",
         rows,
-        b"names ab and cd, the second in the same word",
-        stopped(18, 26, 0, 2, 0, 384),
-        b"ab\x00cd\x00\x00\x00",
+        b"ab and cd",
+        leaves(18, 26, 0, 2, 0, 384),
+        b"ab\x00cd\x00",
     )
 }
 
-fn a_name_in_two_words(t: Tally) -> Tally {
+fn two_words(t: Tally) -> Tally {
+    let row = nothing(b"position");
     let t = names(
         t,
         b"abcd",
-        nothing(b"position"),
-        b"name position behind a list of 5 bytes, its higher word",
-        stopped(17, 22, 0, 1, 0, 384),
-        b"abcd\x00\x00\x00\x00ition\x00\x00\x00",
+        row,
+        b"position behind abcd",
+        leaves(17, 22, 0, 1, 0, 384),
+        b"abcd\x00\x00\x00\x00ition\x00",
     );
     let t = names(
         t,
         b"abcd",
-        nothing(b"position"),
-        b"name position behind a list of 5 bytes, its lower word",
-        stopped(18, 22, 0, 2, 0, 384),
-        b"abcd\x00position\x00\x00\x00",
+        row,
+        b"position behind abcd",
+        leaves(18, 22, 0, 2, 0, 384),
+        b"abcd\x00position\x00",
     );
     names(
         t,
         b"",
-        nothing(b"position"),
-        b"name position, a word without its zero",
-        all(21, 1, 1, 1, 384),
-        b"position\x00\x00\x00\x00\x00\x00\x00\x00",
+        row,
+        b"position in a word",
+        leaves(21, 21, 1, 1, 1, 384),
+        b"position\x00",
     )
 }
 
-// Tests go before the limit; a limit counts stores, not changes.
+// The tests go before the limit; a limit counts stores, not changes.
 
-fn limit_0(t: Tally) -> Tally {
+fn changed_by(limit: u64) -> u64 {
     let before = fresh(2, 1);
     let mut image = before;
+    append(&mut image, 1024, sheet_a(), limit);
+    ask::changed(&before, &image)
+}
+
+fn limits(t: Tally) -> Tally {
+    let mut image = fresh(2, 1);
     let t = t.with(
-        b"limit 0 on a sheet without rows",
+        b"limit 0, no rows",
         append(&mut image, 1024, table(0), 0).number,
         22,
     );
     let t = t.with(
-        b"limit 0 on sheet A in 399 bytes",
-        append(&mut image, 399, sheet_a(), 0).number,
-        29,
-    );
-    let t = t.with(
-        b"limit 0 on sheet A",
-        append(&mut image, 1024, sheet_a(), 0).number,
-        0,
-    );
-    t.with(b"changed by it", ask::changed(&before, &image), 0)
-}
-
-fn equal_content(t: Tally) -> Tally {
-    let before = fresh(2, 1);
-    let mut image = before;
-    let t = t.with(
-        b"zeros over zeros, done",
-        append(&mut image, 1024, sheet_a(), 16).done,
-        16,
-    );
-    let t = t.with(b"changed by them", ask::changed(&before, &image), 0);
-    t.with(
-        b"limit 2^64-1 on sheet A, done",
+        b"sheet A, limit 2^64-1, done",
         append(&mut image, 1024, sheet_a(), 18446744073709551615).done,
         23,
-    )
+    );
+    let t = t.with(b"sheet A, changed by limit 0", changed_by(0), 0);
+    let t = t.with(b"sheet A, changed by 16 stores of zeros", changed_by(16), 0);
+    t.with(b"sheet A, changed by 17 stores", changed_by(17), 1)
 }
 
 // Old entries move with their flags; new ones have none.
@@ -189,11 +169,11 @@ fn flags(t: Tally) -> Tally {
     let mut image = sample_with(e);
     let t = shows(
         t,
-        b"sheet B behind an entry with flags 165",
+        b"sheet B behind flags 165",
         &mut image,
         1024,
         sheet_b(),
-        all(43, 2, 2, 3, 552),
+        leaves(43, 43, 2, 2, 3, 552),
     );
     let t = t.with(
         b"flags of the old entry",
@@ -211,8 +191,7 @@ pub fn stores(t: Tally) -> Tally {
     let t = clears(t);
     let t = cleared_names(t);
     let t = two_names(t);
-    let t = a_name_in_two_words(t);
-    let t = limit_0(t);
-    let t = equal_content(t);
+    let t = two_words(t);
+    let t = limits(t);
     flags(t)
 }

@@ -50,20 +50,6 @@ impl Tally {
         self.case(says).answer(b": ", got, expected).end()
     }
 
-    // A case that must hold.
-    pub fn holds(self, says: &[u8], got: bool) -> Tally {
-        let t = self.case(says);
-        if got {
-            io::write_all(STDOUT_FILENO, b": yes\n");
-            return t;
-        }
-        io::write_all(STDOUT_FILENO, b": no, WRONG\n");
-        Tally {
-            cases: t.cases,
-            wrong: std::num::wrapping_add_u64(t.wrong, 1),
-        }
-    }
-
     pub fn print(self) {
         io::print_decimal(STDOUT_FILENO, self.cases);
         io::write_all(STDOUT_FILENO, b" cases, ");
