@@ -1,6 +1,5 @@
 // The paper's sheets A and B, each with every limit from 0 to the whole append, and what each must show by the paper.
 use crate::build::fresh;
-use crate::sheet::Sheet;
 use crate::sheet::sheet_a;
 use crate::sheet::sheet_b;
 use crate::shown::Shown;

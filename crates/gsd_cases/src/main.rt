@@ -1,5 +1,5 @@
-// Worked cases, and the edges of reading and creating, each on an image that is built for it: what is asked, what is
-// answered, and at the end how many answers are wrong.
+// Worked cases, and the edges of reading, creating and appending, each on an image that is built for it: what is asked,
+// what is answered, and at the end how many answers are wrong. Here those of reading and creating.
 mod ask;
 mod build;
 mod limits;

@@ -65,38 +65,44 @@ fn with_blocks(index: u64, slots: u64, namelist: u64, segments: u64) -> [u8; 409
     image
 }
 
-// The end of use counts empty things, and a count of 0 doubles as 1.
-fn empty_things(t: Tally) -> Tally {
-    let row = nothing(b"probe");
+// The end of use counts empty things.
+
+fn empty_chunk(t: Tally) -> Tally {
     let image = sample_with(chunk(500, 0, 1, 1));
-    let t = fits(
+    fits(
         t,
         b"an empty row behind an empty chunk at 500",
         image,
         500,
         504,
-        row,
+        nothing(b"probe"),
         leaves(16, 16, 2, 1, 2, 504),
-    );
+    )
+}
+
+fn empty_index(t: Tally) -> Tally {
     let image = with_blocks(512, 0, 320, 1);
-    let t = fits(
+    fits(
         t,
         b"no slots, at 512",
         image,
         512,
         576,
-        row,
+        nothing(b"probe"),
         leaves(23, 23, 1, 1, 1, 576),
-    );
+    )
+}
+
+// A count of 0 doubles as 1.
+fn empty_blocks(t: Tally) -> Tally {
     let image = with_blocks(256, 0, 256, 0);
-    let row = table(1).with(b"a", b"1");
     fits(
         t,
         b"no slots and no segments, at 256",
         image,
         455,
         456,
-        row,
+        table(1).with(b"a", b"1"),
         leaves(34, 34, 1, 1, 1, 456),
     )
 }
@@ -195,7 +201,9 @@ fn anywhere(t: Tally) -> Tally {
 
 pub fn places(t: Tally) -> Tally {
     let t = rounded(t);
-    let t = empty_things(t);
+    let t = empty_chunk(t);
+    let t = empty_index(t);
+    let t = empty_blocks(t);
     let t = name_blocks(t);
     let t = off_eight(t);
     anywhere(t)

@@ -52,7 +52,14 @@ fn unnamed() -> Sheet {
 
 fn refusals(t: Tally) -> Tally {
     let image = fresh(2, 1);
-    let t = refuses(t, b"65 rows in 4 bytes", image, 1024, table(65).cut(4), 22);
+    let t = refuses(
+        t,
+        b"a count of 65 without a table",
+        image,
+        1024,
+        table(65).cut(4),
+        22,
+    );
     let t = refuses(
         t,
         b"data too short, then an unknown type",

@@ -1,4 +1,5 @@
-// Append sheets, built row by row: the two of the paper, and those of the edges.
+// Append sheets, built row by row: a table of contents, then each row's name and data. The two of the paper, and what
+// the edges need.
 use crate::build::put_text;
 use crate::build::put_word;
 

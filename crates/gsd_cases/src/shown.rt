@@ -1,4 +1,5 @@
 // An append run on an image, and what it answers and leaves: the counts that opening then answers, and the end of use.
+// Each run is one line, with every number compared.
 use crate::ask::changed;
 use crate::build::first;
 use crate::build::within;

@@ -1,4 +1,5 @@
-// What the stores of an append are: clears, names and entries byte for byte, and what a limit counts.
+// What the stores of an append are: clears, names and entries byte for byte, which of them go first, and what a limit
+// counts.
 use crate::ask;
 use crate::build::first;
 use crate::build::fresh;
