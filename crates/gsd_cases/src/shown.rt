@@ -142,12 +142,12 @@ pub fn shows(
 ) -> Tally {
     let answered = append(image, len, sheet, expected.done);
     let got = opened(first(image, len), answered);
-    let t = t.case(says).said(b" in ", len as u64);
+    let t = t.case(says).said(b", in ", len as u64);
     let t = t.said(b" bytes, limit ", expected.done);
     compared(t, got, expected)
 }
 
-// An append without a limit that is refused with this number and changes nothing.
+// An append without a limit that is refused with this number, reports 0 and 0, and changes nothing.
 pub fn refuses(
     t: Tally,
     says: &[u8],
@@ -158,8 +158,9 @@ pub fn refuses(
 ) -> Tally {
     let mut after = image;
     let got = append(&mut after, len, sheet, 18446744073709551615);
-    let t = t.case(says).said(b" in ", len as u64);
+    let t = t.case(says).said(b", in ", len as u64);
     let t = t.answer(b" bytes: refused ", got.number, number);
+    let t = t.answer(b", done ", got.done, 0);
     let t = t.answer(b", whole ", got.whole, 0);
     t.answer(b", changed ", changed(&image, &after), 0).end()
 }
