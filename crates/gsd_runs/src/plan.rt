@@ -42,33 +42,38 @@ fn head_at(heads: &[u64; 66], k: usize) -> Run
     }
 }
 
-// The other runs, by their numbers.
+// The other runs, from the arrays.
 
-fn body_run(to: usize, from: usize, until: usize) -> Run
-    requires { ⌜ (from ≤ until) × (until ≤ half) ⌝ }
-    ensures { λ r. ⌜ r ≡ body to from until ⌝ }
+fn body_run<'a>(to: &'a [usize; 64], from: &'a [usize; 64], until: &'a [usize; 64], i: usize) -> Run
+    requires { ⌜ (i < 64) × ((getD (now from) i 0 ≤ getD (now until) i 0) × (getD (now until) i 0 ≤ half)) ⌝ }
+    ensures { λ r. ⌜ r ≡ body (getD (now (to .entry)) i 0) (getD (now (from .entry)) i 0) (getD (now (until .entry)) i 0) ⌝ }
 {
+    let start = from[i];
+    let end = until[i];
     Run {
         kind: 1,
-        to: to,
-        words: (until - from + 7) / 8,
-        from: from,
-        until: until,
+        to: to[i],
+        words: (end - start + 7) / 8,
+        from: start,
+        until: end,
         value: 0,
     }
 }
 
-fn name_run(at: usize, from: usize, until: usize) -> Run
-    requires { ⌜ (from ≤ until) × (at + (until - from) ≤ half) ⌝ }
-    ensures { λ r. ⌜ r ≡ name at from until ⌝ }
+fn name_run<'a>(at: &'a [usize; 64], from: &'a [usize; 64], until: &'a [usize; 64], j: usize) -> Run
+    requires { ⌜ (j < 64) × ((getD (now from) j 0 ≤ getD (now until) j 0) × (getD (now at) j 0 + (getD (now until) j 0 - getD (now from) j 0) ≤ half)) ⌝ }
+    ensures { λ r. ⌜ r ≡ name (getD (now (at .entry)) j 0) (getD (now (from .entry)) j 0) (getD (now (until .entry)) j 0) ⌝ }
 {
+    let first = at[j];
+    let start = from[j];
+    let end = until[j];
     Run {
         kind: 3,
-        to: at / 8 * 8,
-        words: (at + (until - from) + 7) / 8 - at / 8,
-        from: from,
-        until: until,
-        value: at as u64,
+        to: first / 8 * 8,
+        words: (first + (end - start) + 7) / 8 - first / 8,
+        from: start,
+        until: end,
+        value: first as u64,
     }
 }
 
@@ -145,7 +150,7 @@ pub(crate) fn run_at<'a>(
     }
     let row = r - 3;
     if row < rows {
-        return body_run(body_to[row], body_from[row], body_until[row]);
+        return body_run(body_to, body_from, body_until, row);
     }
     let b = row - rows;
     if b < 4 {
@@ -153,7 +158,7 @@ pub(crate) fn run_at<'a>(
     }
     let j = b - 4;
     if j < fresh {
-        return name_run(name_at[j], name_from[j], name_until[j]);
+        return name_run(name_at, name_from, name_until, j);
     }
     let e = j - fresh;
     if e < 4 {
