@@ -1,3 +1,4 @@
+-- `gsd_append::append` meets its contract.
 use native.Mathlib.Omega.{arith}
 use mathlib.Core.Path.{sym, _∙_}
 use Rattle.gsd_append.proofs.Appends.{ready-half, refused-append, cursor-start, append-ready, accepted-append}
@@ -5,31 +6,24 @@ use borrow.Author.Needs.{needs}
 use Rattle.gsd_append.proofs.append.Statement.{statement}
 use Rattle.gsd_append.proofs.append.Tie as tie
 
--- src/lib.rt:24:9
 plan-append-requires : tie.Need-plan-append-requires
 plan-append-requires c κs = search needs
 
--- src/lib.rt:26:9
 same-length : tie.Need-same-length
 same-length c = search needs
 
--- src/lib.rt:26:9
 returns : tie.Need-returns
 returns c = refused-append _ _ _ _ (c .before .before .plan-append .ensures .number) (c .if1 .taken)
 
--- src/lib.rt:32:9
 whole-requires : tie.Need-whole-requires
 whole-requires c κs = ready-half _ _ _ (search needs) (search needs) (append-ready _ _ (sym (c .before .before .plan-append .ensures .number) ∙ c .if1 .left) (λ i. omega (arith, c .before .before .before .before .before .slice-known .given i)) (λ i. omega (arith, c .before .before .before .before .shared-slice-known .given i)) _ (c .before .before .plan-append .ensures .plan (sym (c .before .before .plan-append .ensures .number) ∙ c .if1 .left)))
 
--- src/lib.rt:33:9
 turn-requires : tie.Need-turn-requires
 turn-requires c κs = (append-ready _ _ (sym (c .before .before .before .before .plan-append .ensures .number) ∙ c .before .before .if1 .left) (λ i. omega (arith, c .before .before .before .before .before .before .before .slice-known .given i)) (λ i. omega (arith, c .before .before .before .before .before .before .shared-slice-known .given i)) _ (c .before .before .before .before .plan-append .ensures .plan (sym (c .before .before .before .before .plan-append .ensures .number) ∙ c .before .before .if1 .left)), cursor-start _)
 
--- src/lib.rt:20:1
 same-length-2 : tie.Need-same-length-2
 same-length-2 c = search needs
 
--- src/lib.rt:20:1
 returns-2 : tie.Need-returns-2
 returns-2 c = accepted-append _ _ (sym (c .before .before .before .before .before .before .before .plan-append .ensures .number) ∙ c .before .before .before .before .before .if1 .left) (λ i. omega (arith, c .before .before .before .before .before .before .before .before .before .before .slice-known .given i)) (λ i. omega (arith, c .before .before .before .before .before .before .before .before .before .shared-slice-known .given i)) _ (c .before .before .before .before .before .before .before .plan-append .ensures .plan (sym (c .before .before .before .before .before .before .before .plan-append .ensures .number) ∙ c .before .before .before .before .before .if1 .left)) _ _ _ _ (c .before .before .before .before .whole .ensures) (c .before .before .turn .ensures)
 

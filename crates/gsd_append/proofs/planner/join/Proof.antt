@@ -1,42 +1,34 @@
+-- `gsd_append::planner::join` meets its contract.
 use native.Mathlib.Omega.{arith}
 use Rattle.gsd_append.proofs.PlanMatch.{block-small, index-small, joined}
 use borrow.Author.Needs.{needs}
 use Rattle.gsd_append.proofs.planner.join.Statement.{statement}
 use Rattle.gsd_append.proofs.planner.join.Tie as tie
 
--- src/planner.rt:138:17
 chosen-requires : tie.Need-chosen-requires
 chosen-requires c κs = search needs
 
--- src/planner.rt:139:17
 chosen-requires-2 : tie.Need-chosen-requires-2
 chosen-requires-2 c κs = search needs
 
--- src/planner.rt:140:66
 sub-place-names : tie.Need-sub-place-names
 sub-place-names c = search needs
 
--- src/planner.rt:140:57
 add-place-names : tie.Need-add-place-names
 add-place-names c = omega (arith, block-small (c .before .before .before .before .pre) _ (c .before .before .chosen .ensures))
 
--- src/planner.rt:140:9
 place-names-requires : tie.Need-place-names-requires
 place-names-requires c κs = (c .before .before .before .before .pre .fewNew, block-small (c .before .before .before .before .pre) _ (c .before .before .chosen .ensures), c .before .before .before .before .pre .rows, c .before .before .before .before .pre .name, c .before .before .before .before .pre .short)
 
--- src/planner.rt:147:9
 fill-entries-requires : tie.Need-fill-entries-requires
 fill-entries-requires c κs = search needs
 
--- src/planner.rt:161:23
 mul-t28 : tie.Need-mul-t28
 mul-t28 c = search needs
 
--- src/planner.rt:161:15
 add-t27 : tie.Need-add-t27
 add-t27 c = omega (arith, index-small (c .before .before .before .before .before .before .before .before .before .before .before .before .before .before .before .before .pre) _ (c .before .before .before .before .before .before .before .before .before .before .before .before .before .chosen2 .ensures))
 
--- src/planner.rt:122:1
 returns : tie.Need-returns
 returns c = joined _ _ _ _ _ _ _ _ _ _ _ _ _ _ _ (c .before .before .before .before .before .before .before .before .before .before .before .before .before .before .chosen .ensures) (c .before .before .before .before .before .before .before .before .before .before .before .before .before .chosen2 .ensures) (c .before .before .before .before .before .before .before .before .before .before .before .place-names .ensures) (c .before .before .before .fill-entries .ensures)
 

@@ -1,3 +1,4 @@
+-- `gsd_append::planner::plan_names` meets its contract.
 use native.Mathlib.Omega.{arith}
 use Rattle.gsd_stores.proofs.Sheet.{accepted}
 use Rattle.gsd_append.proofs.PlanMatch.{fresh-small, many-names, few-names, asked, plans-refused, plans-same}
@@ -5,27 +6,21 @@ use borrow.Author.Needs.{needs}
 use Rattle.gsd_append.proofs.planner.plan_names.Statement.{statement}
 use Rattle.gsd_append.proofs.planner.plan_names.Tie as tie
 
--- src/planner.rt:215:9
 find-ids-requires : tie.Need-find-ids-requires
 find-ids-requires c κs = (c .before .before .pre .1, (c .before .before .pre .2, (c .before .before .pre .6, (c .before .before .pre .7, accepted _ (c .before .before .pre .5) .distinct))))
 
--- src/planner.rt:216:15
 add-if1 : tie.Need-add-if1
 add-if1 c = omega (arith, c .before .before .before .before .pre .2, fresh-small _ _ _ _ _ (c .before .before .before .before .pre .6) (c .before .find-ids .ensures))
 
--- src/planner.rt:217:9
 refused-requires : tie.Need-refused-requires
 refused-requires c κs = search needs
 
--- src/planner.rt:217:9
 returns : tie.Need-returns
 returns c = plans-refused _ _ _ 27 _ (many-names _ _ _ _ _ (c .before .before .before .before .before .before .pre .3) (c .before .before .before .before .before .before .pre .4) (c .before .before .before .find-ids .ensures) (c .before .if1 .taken)) (c .refused .ensures)
 
--- src/planner.rt:219:5
 plan-rows-requires : tie.Need-plan-rows-requires
 plan-rows-requires c κs = (c .before .before .before .before .before .pre .0, asked _ _ _ _ _ (c .before .before .before .before .before .pre .3) (c .before .before .before .before .before .pre .4) (c .before .before .find-ids .ensures) _ _ _ (c .before .before .before .before .before .pre .5) (c .before .before .before .before .before .pre .6) (c .before .before .before .before .before .pre .7))
 
--- src/planner.rt:201:1
 returns-2 : tie.Need-returns-2
 returns-2 c = plans-same _ _ _ _ _ (few-names _ _ _ _ _ (c .before .before .before .before .before .before .pre .3) (c .before .before .before .before .before .before .pre .4) (c .before .before .before .find-ids .ensures) (c .before .if1 .left)) (c .plan-rows .ensures)
 

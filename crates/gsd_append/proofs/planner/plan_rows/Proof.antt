@@ -1,3 +1,4 @@
+-- `gsd_append::planner::plan_rows` meets its contract.
 use native.Mathlib.Omega.{arith}
 use mathlib.Core.Path.{refl}
 use Rattle.gsd_append.proofs.PlanMatch.{seen-within, use-need, use-found, use-small, rows-laid, few-rows, bytes-small, entries-small, sites-need}
@@ -6,59 +7,45 @@ use borrow.Author.Needs.{needs}
 use Rattle.gsd_append.proofs.planner.plan_rows.Statement.{statement}
 use Rattle.gsd_append.proofs.planner.plan_rows.Tie as tie
 
--- src/planner.rt:182:17
 end-of-use-requires : tie.Need-end-of-use-requires
 end-of-use-requires c κs = use-need _ _ (c .before .before .pre .0)
 
--- src/planner.rt:183:9
 place-bodies-requires : tie.Need-place-bodies-requires
 place-bodies-requires c κs = (rows-laid _ _ _ (c .before .before .before .pre .0) _ _ _ _ (c .before .before .before .pre .1) (search needs), use-small _ _ (c .before .before .before .pre .0) _ (use-found _ _ (c .before .before .before .pre .0) _ (c .end-of-use .ensures)))
 
--- src/planner.rt:186:9
 refused-requires : tie.Need-refused-requires
 refused-requires c κs = search needs
 
--- src/planner.rt:186:9
 returns : tie.Need-returns
 returns c = plans-refused _ _ _ 28 _ (data-long _ _ _ (c .before .before .before .before .before .before .before .pre .0) _ _ _ _ (c .before .before .before .before .before .before .before .pre .1) _ (use-found _ _ (c .before .before .before .before .before .before .before .pre .0) _ (c .before .before .before .before .end-of-use .ensures)) _ (c .before .before .before .place-bodies .ensures) (c .before .if1 .taken)) (c .refused .ensures)
 
--- src/planner.rt:188:17
 sub-bytes : tie.Need-sub-bytes
 sub-bytes c = omega (arith, seen-within _ _ (c .before .before .before .before .before .before .before .pre .0) .low)
 
--- src/planner.rt:188:17
 add-bytes : tie.Need-add-bytes
 add-bytes c = omega (arith, (bytes-small _ _ _ (c .before .before .before .before .before .before .before .pre .0) _ _ _ _ (c .before .before .before .before .before .before .before .pre .1) (λ i. omega (arith, c .before .before .before .before .before .shared-slice-known2 .given i))))
 
--- src/planner.rt:189:71
 add-find-sites : tie.Need-add-find-sites
 add-find-sites c = omega (arith, (entries-small _ _ _ (c .before .before .before .before .before .before .before .before .pre .0) _ _ _ _ (c .before .before .before .before .before .before .before .before .pre .1)))
 
--- src/planner.rt:189:9
 find-sites-requires : tie.Need-find-sites-requires
 find-sites-requires c κs = sites-need _ _ _ (c .before .before .before .before .before .before .before .before .pre .0) _ _ _ _ (c .before .before .before .before .before .before .before .before .pre .1) _ (c .before .before .if1 .left) _ (bytes-small _ _ _ (c .before .before .before .before .before .before .before .before .pre .0) _ _ _ _ (c .before .before .before .before .before .before .before .before .pre .1) (λ i. omega (arith, c .before .before .before .before .before .before .shared-slice-known2 .given i)))
 
--- src/planner.rt:191:9
 refused-requires-2 : tie.Need-refused-requires-2
 refused-requires-2 c κs = search needs
 
--- src/planner.rt:191:9
 returns-2 : tie.Need-returns-2
 returns-2 c = plans-refused _ _ _ 28 _ (sites-long _ _ _ (c .before .before .before .before .before .before .before .before .before .before .before .before .pre .0) _ _ _ _ (c .before .before .before .before .before .before .before .before .before .before .before .before .pre .1) _ (use-found _ _ (c .before .before .before .before .before .before .before .before .before .before .before .before .pre .0) _ (c .before .before .before .before .before .before .before .before .before .end-of-use .ensures)) _ (c .before .before .before .before .before .before .before .before .place-bodies .ensures) _ _ refl (c .before .before .before .find-sites .ensures) (c .before .if2 .taken)) (c .refused2 .ensures)
 
--- src/planner.rt:193:9
 heads-for-requires : tie.Need-heads-for-requires
 heads-for-requires c κs = sited _ _ _ (c .before .before .before .before .before .before .before .before .before .before .before .pre .0) _ _ _ _ (c .before .before .before .before .before .before .before .before .before .before .before .pre .1) _ (use-found _ _ (c .before .before .before .before .before .before .before .before .before .before .before .pre .0) _ (c .before .before .before .before .before .before .before .before .end-of-use .ensures)) _ (c .before .before .before .before .before .before .before .place-bodies .ensures) _ _ refl (c .before .before .find-sites .ensures) (c .if2 .left) (bytes-small _ _ _ (c .before .before .before .before .before .before .before .before .before .before .before .pre .0) _ _ _ _ (c .before .before .before .before .before .before .before .before .before .before .before .pre .1) (λ i. omega (arith, c .before .before .before .before .before .before .before .before .before .shared-slice-known2 .given i))) (entries-small _ _ _ (c .before .before .before .before .before .before .before .before .before .before .before .pre .0) _ _ _ _ (c .before .before .before .before .before .before .before .before .before .before .before .pre .1))
 
--- src/planner.rt:195:17
 sort-requires : tie.Need-sort-requires
 sort-requires c κs = few-rows _ _ _ (c .before .before .before .before .before .before .before .before .before .before .before .before .before .pre .0) _ _ _ _ (c .before .before .before .before .before .before .before .before .before .before .before .before .before .pre .1)
 
--- src/planner.rt:196:9
 join-requires : tie.Need-join-requires
 join-requires c κs = joinable _ _ _ (c .before .before .before .before .before .before .before .before .before .before .before .before .before .before .before .before .before .pre .0) _ _ _ _ (c .before .before .before .before .before .before .before .before .before .before .before .before .before .before .before .before .before .pre .1) _ (use-found _ _ (c .before .before .before .before .before .before .before .before .before .before .before .before .before .before .before .before .before .pre .0) _ (c .before .before .before .before .before .before .before .before .before .before .before .before .before .before .end-of-use .ensures)) _ (c .before .before .before .before .before .before .before .before .before .before .before .before .before .place-bodies .ensures) _ _ refl (c .before .before .before .before .before .before .before .before .find-sites .ensures) (c .before .before .before .before .before .before .if2 .left) (λ i. omega (arith, c .before .before .before .before .before .before .before .before .before .before .before .before .before .before .before .shared-slice-known2 .given i)) _ (search needs) (c .before .before .before .sort .ensures)
 
--- src/planner.rt:170:1
 returns-3 : tie.Need-returns-3
 returns-3 c = plans-made _ _ _ _ (sites-fit _ _ _ (c .before .before .before .before .before .before .before .before .before .before .before .before .before .before .before .before .before .before .pre .0) _ _ _ _ (c .before .before .before .before .before .before .before .before .before .before .before .before .before .before .before .before .before .before .pre .1) _ (use-found _ _ (c .before .before .before .before .before .before .before .before .before .before .before .before .before .before .before .before .before .before .pre .0) _ (c .before .before .before .before .before .before .before .before .before .before .before .before .before .before .before .end-of-use .ensures)) _ (c .before .before .before .before .before .before .before .before .before .before .before .before .before .before .place-bodies .ensures) _ _ refl (c .before .before .before .before .before .before .before .before .before .find-sites .ensures) (c .before .before .before .before .before .before .before .if2 .left)) (matched _ _ _ (c .before .before .before .before .before .before .before .before .before .before .before .before .before .before .before .before .before .before .pre .0) _ _ _ _ (c .before .before .before .before .before .before .before .before .before .before .before .before .before .before .before .before .before .before .pre .1) _ (use-found _ _ (c .before .before .before .before .before .before .before .before .before .before .before .before .before .before .before .before .before .before .pre .0) _ (c .before .before .before .before .before .before .before .before .before .before .before .before .before .before .before .end-of-use .ensures)) _ (c .before .before .before .before .before .before .before .before .before .before .before .before .before .before .place-bodies .ensures) _ _ refl (c .before .before .before .before .before .before .before .before .before .find-sites .ensures) (c .before .before .before .before .before .before .before .if2 .left) (λ i. omega (arith, c .before .before .before .before .before .before .before .before .before .before .before .before .before .before .before .before .shared-slice-known2 .given i)) _ (search needs) (c .before .before .before .before .sort .ensures) _ _ (c .join .ensures) (c .before .before .before .before .before .before .heads-for .ensures))
 

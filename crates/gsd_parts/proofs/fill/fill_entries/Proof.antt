@@ -1,3 +1,4 @@
+-- `gsd_parts::fill::fill_entries` meets its contract. Invariant: the entries before the s-th have their numbers.
 use Prim.Native.Nat.{_+_, _*_, _-_, _/_}
 use mathlib.Core.Path.{refl, _∙_}
 use native.Mathlib.Omega.{arith}

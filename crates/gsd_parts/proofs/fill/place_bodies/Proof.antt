@@ -1,3 +1,4 @@
+-- `gsd_parts::fill::place_bodies` meets its contract. Invariant: the rows before the i-th have their data's places.
 use Prim.Native.Nat.{_+_, _-_}
 use mathlib.Core.Path.{refl}
 use native.Mathlib.Omega.{arith}

@@ -1,3 +1,4 @@
+-- `gsd_parts::fill::place_names` meets its contract. Invariant: the new names before the j-th have their places.
 use Prim.Native.Nat.{_-_}
 use mathlib.Core.Path.{refl}
 use native.Mathlib.Omega.{arith}

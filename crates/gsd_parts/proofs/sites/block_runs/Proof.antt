@@ -1,3 +1,4 @@
+-- `gsd_parts::sites::block_runs` meets its contract.
 use borrow.Author.Tests.{not-true, not-false}
 use borrow.Author.Needs.{needs}
 use Rattle.gsd_parts.proofs.sites.block_runs.Statement.{statement}

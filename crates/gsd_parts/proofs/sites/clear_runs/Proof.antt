@@ -1,3 +1,4 @@
+-- `gsd_parts::sites::clear_runs` meets its contract.
 use Prim.Native.Nat.{ℕ, _+_, _*_, _-_, _/_}
 use mathlib.Core.Path.{ap, _∙_}
 use Rattle.gsd_runs.specs.Runs.{number}

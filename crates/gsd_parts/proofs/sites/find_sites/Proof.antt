@@ -1,3 +1,4 @@
+-- `gsd_parts::sites::find_sites` meets its contract.
 use Prim.Native.Nat.{ℕ, _+_, _*_, _/_}
 use mathlib.Core.Path.{_≡_, ap, _∙_}
 use mathlib.Core.Bool.{Bool, cond}

@@ -1,3 +1,4 @@
+-- `gsd_parts::sites::grown_count` meets its contract. Invariant: doubling goes on to the same count.
 use Prim.Native.Nat.{_*_, _-_, _≤_, max}
 use mathlib.Core.Path.{_≡_, refl, sym, ap, _∙_}
 use native.Mathlib.Omega.{arith}

@@ -1,26 +1,22 @@
+-- `gsd_parts::sites::heads_for` meets its contract.
 use Rattle.gsd_parts.specs.Sites.{headsOf}
 use mathlib.Core.Path.{_∙_}
 use borrow.Author.Needs.{needs}
 use Rattle.gsd_parts.proofs.sites.heads_for.Statement.{statement}
 use Rattle.gsd_parts.proofs.sites.heads_for.Tie as tie
 
--- src/planner.rt:110:9
 clear-runs-requires : tie.Need-clear-runs-requires
 clear-runs-requires c κs = search needs
 
--- src/planner.rt:111:9
 name-block-requires : tie.Need-name-block-requires
 name-block-requires c κs = search needs
 
--- src/planner.rt:112:9
 index-block-requires : tie.Need-index-block-requires
 index-block-requires c κs = search needs
 
--- src/planner.rt:113:5
 lay-heads-requires : tie.Need-lay-heads-requires
 lay-heads-requires c κs = search needs
 
--- src/planner.rt:106:1
 returns : tie.Need-returns
 returns c = c .lay-heads .ensures ∙ λ i. headsOf (c .before .before .before .clear-runs .ensures i) (c .before .before .name-block .ensures i) (c .before .index-block .ensures i)
 

@@ -1,3 +1,4 @@
+-- `gsd_parts::sites::index_block` meets its contract.
 use native.Mathlib.Omega.{arith}
 use borrow.Author.Needs.{needs}
 use Rattle.gsd_parts.proofs.sites.index_block.Statement.{statement}

@@ -4,19 +4,15 @@ use borrow.Author.Needs.{needs}
 use Rattle.gsd_parts.proofs.sites.lay_heads.Statement.{statement}
 use Rattle.gsd_parts.proofs.sites.lay_heads.Tie as tie
 
--- src/sites.rt:264:5
 put-clears-requires : tie.Need-put-clears-requires
 put-clears-requires c κs = search needs
 
--- src/sites.rt:265:5
 put-block-requires : tie.Need-put-block-requires
 put-block-requires c κs = search needs
 
--- src/sites.rt:266:5
 put-block-requires-2 : tie.Need-put-block-requires-2
 put-block-requires-2 c κs = search needs
 
--- src/sites.rt:260:1
 returns : tie.Need-returns
 returns c = heads-laid _ _ _ _ _ _ (c .before .before .before .before .put-clears .ensures) (c .before .before .put-block .ensures) (c .put-block2 .ensures)
 

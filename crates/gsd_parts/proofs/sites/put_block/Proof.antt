@@ -3,35 +3,27 @@ use borrow.Author.Needs.{needs}
 use Rattle.gsd_parts.proofs.sites.put_block.Statement.{statement}
 use Rattle.gsd_parts.proofs.sites.put_block.Tie as tie
 
--- src/sites.rt:254:5
 put-run-requires : tie.Need-put-run-requires
 put-run-requires c κs = search needs
 
--- src/sites.rt:255:20
 add-put-run : tie.Need-add-put-run
 add-put-run c = search needs
 
--- src/sites.rt:255:5
 put-run-requires-2 : tie.Need-put-run-requires-2
 put-run-requires-2 c κs = search needs
 
--- src/sites.rt:256:20
 add-put-run-2 : tie.Need-add-put-run-2
 add-put-run-2 c = search needs
 
--- src/sites.rt:256:5
 put-run-requires-3 : tie.Need-put-run-requires-3
 put-run-requires-3 c κs = search needs
 
--- src/sites.rt:257:20
 add-put-run-3 : tie.Need-add-put-run-3
 add-put-run-3 c = search needs
 
--- src/sites.rt:257:5
 put-run-requires-4 : tie.Need-put-run-requires-4
 put-run-requires-4 c κs = search needs
 
--- src/sites.rt:250:1
 returns : tie.Need-returns
 returns c = rw (c .put-run4 .ensures, c .before .before .put-run3 .ensures, c .before .before .before .before .put-run2 .ensures, c .before .before .before .before .before .before .put-run .ensures)
 

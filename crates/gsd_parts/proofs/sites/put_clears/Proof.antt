@@ -3,19 +3,15 @@ use borrow.Author.Needs.{needs}
 use Rattle.gsd_parts.proofs.sites.put_clears.Statement.{statement}
 use Rattle.gsd_parts.proofs.sites.put_clears.Tie as tie
 
--- src/sites.rt:245:5
 put-run-requires : tie.Need-put-run-requires
 put-run-requires c κs = search needs
 
--- src/sites.rt:246:5
 put-run-requires-2 : tie.Need-put-run-requires-2
 put-run-requires-2 c κs = search needs
 
--- src/sites.rt:247:5
 put-run-requires-3 : tie.Need-put-run-requires-3
 put-run-requires-3 c κs = search needs
 
--- src/sites.rt:242:1
 returns : tie.Need-returns
 returns c = rw (c .put-run3 .ensures, c .before .before .put-run2 .ensures, c .before .before .before .before .put-run .ensures)
 

@@ -1,25 +1,22 @@
+-- `gsd_runs::plan::of_four` meets its contract.
 use native.Mathlib.Omega.{arith}
 use mathlib.Core.Path.{_≡_, ap}
 use Rattle.gsd_runs.specs.Runs.{ofFour}
 use Rattle.gsd_runs.proofs.plan.of_four.Statement.{statement}
 use Rattle.gsd_runs.proofs.plan.of_four.Tie as tie
 
--- src/plan.rt:113:1
 returns : tie.Need-returns
 unfolding ofFour
 returns c = rw (c .match .keys1)
 
--- src/plan.rt:113:1
 returns-2 : tie.Need-returns-2
 unfolding ofFour
 returns-2 c = rw (c .match .keys2)
 
--- src/plan.rt:113:1
 returns-3 : tie.Need-returns-3
 unfolding ofFour
 returns-3 c = rw (c .match .keys3)
 
--- src/plan.rt:113:1
 returns-4 : tie.Need-returns-4
 unfolding ofFour
 returns-4 c =

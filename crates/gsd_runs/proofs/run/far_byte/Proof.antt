@@ -1,3 +1,4 @@
+-- `gsd_runs::run::far_byte` meets its contract.
 use borrow.Author.Needs.{needs}
 use mathlib.Core.Path.{sym, _∙_, ap}
 use native.Mathlib.Omega.{arith}
@@ -6,31 +7,25 @@ use Rattle.gsd_runs.proofs.Words.{text-image, text-sheet, text-name}
 use Rattle.gsd_runs.proofs.run.far_byte.Statement.{statement}
 use Rattle.gsd_runs.proofs.run.far_byte.Tie as tie
 
--- src/run.rt:74:9
 cut-byte-requires : tie.Need-cut-byte-requires
 cut-byte-requires c κs = c .before .before .before .before .pre .0 .image (c .if1 .taken)
 
--- src/run.rt:74:9
 returns : tie.Need-returns
 returns c =
     let x = c .before .before .before .before .before .args in
     (c .cut-byte .ensures .0 ∙ sym (ap (λ l. getD l (x .i) 0) (text-image (x .sheet .now) (x .image .now) (x .run) (c .before .if1 .taken))), search needs)
 
--- src/run.rt:77:9
 cut-byte-requires-2 : tie.Need-cut-byte-requires-2
 cut-byte-requires-2 c κs = c .before .before .before .before .before .before .pre .0 .sheet (c .if2 .taken)
 
--- src/run.rt:77:9
 returns-2 : tie.Need-returns-2
 returns-2 c =
     let x = c .before .before .before .before .before .before .before .args in
     (c .cut-byte2 .ensures .0 ∙ sym (ap (λ l. getD l (x .i) 0) (text-sheet (x .sheet .now) (x .image .now) (x .run) (c .before .if2 .taken))), search needs)
 
--- src/run.rt:79:5
 over-byte-requires : tie.Need-over-byte-requires
 over-byte-requires c κs = omega (arith, c .before .before .before .before .before .before .pre .0 .name (omega arith), c .before .before .before .before .before .before .pre .1 .1 (omega arith))
 
--- src/run.rt:69:1
 returns-3 : tie.Need-returns-3
 returns-3 c =
     let x = c .before .before .before .before .before .before .before .args in

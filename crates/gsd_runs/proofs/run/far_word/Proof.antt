@@ -1,3 +1,4 @@
+-- `gsd_runs::run::far_word` meets its contract. Invariant: v is the number that the bytes from the k-th on make.
 use borrow.Author.Needs.{needs}
 use Prim.Native.Nat.{_+_, _-_, _^_, _≤_, _<_}
 use mathlib.Core.Path.{_≡_, refl, _∙_, ap}
@@ -15,44 +16,35 @@ Inv-loop image sheet run w at v₀ k₀ v k = (k ≤ 8) × ((v ≡ le (8 - k) (t
 abbrev μ-loop : tie.MeasureT-loop
 μ-loop image sheet run w at v₀ k₀ v k = k
 
--- src/run.rt:87:9
 source-requires : tie.Need-source-requires Inv-loop μ-loop
 source-requires c κs = let g = c .before .before .pre in omega (arith, from-within _ _ _ (g .0) (g .1 .0))
 
--- src/run.rt:90:5
 loop-holds : tie.Need-loop-holds Inv-loop μ-loop
 unfolding le
 loop-holds c = (search needs, (refl, omega arith))
 
--- src/run.rt:91:9
 sub-k : tie.Need-sub-k Inv-loop μ-loop
 sub-k c = search needs
 
--- src/run.rt:92:41
 add-far-byte : tie.Need-add-far-byte Inv-loop μ-loop
 add-far-byte c = let g = c .before .before .before .before .before .pre in omega (arith, c .before .before .source .ensures, source-within _ _ _ (g .0) (g .1 .0) _ (g .1 .1) .0)
 
--- src/run.rt:92:13
 far-byte-requires : tie.Need-far-byte-requires Inv-loop μ-loop
 far-byte-requires c κs = let g = c .before .before .before .before .before .pre in (g .0, (g .1 .0, λ e. omega (arith, c .before .before .source .ensures, source-within _ _ _ (g .0) (g .1 .0) _ (g .1 .1) .1 e)))
 
--- src/run.rt:92:51
 mul-v : tie.Need-mul-v Inv-loop μ-loop
 mul-v c =
     let l = bytes-before 8 (c .far-byte .result) (c .before .before .loop .v) (c .before .before .loop .k) (omega arith) (omega arith) (c .far-byte .ensures .1) (c .before .before .loop .inv .1 .1) in
     omega (arith, bytes-fit 8 (c .before .before .loop .k - 1) _ (omega arith) l)
 
--- src/run.rt:92:13
 add-v : tie.Need-add-v Inv-loop μ-loop
 add-v c =
     let l = bytes-before 8 (c .far-byte .result) (c .before .before .loop .v) (c .before .before .loop .k) (omega arith) (omega arith) (c .far-byte .ensures .1) (c .before .before .loop .inv .1 .1) in
     omega (arith, bytes-fit 8 (c .before .before .loop .k - 1) _ (omega arith) l)
 
--- src/run.rt:90:5
 loop-less : tie.Need-loop-less Inv-loop μ-loop
 loop-less c = search needs
 
--- src/run.rt:90:5
 loop-again : tie.Need-loop-again Inv-loop μ-loop
 loop-again c =
     let x = c .before .before .before .before .before .before .args in (
@@ -63,7 +55,6 @@ loop-again c =
       ),
     )
 
--- src/run.rt:83:1
 returns : tie.Need-returns Inv-loop μ-loop
 returns c =
     let x = c .before .before .before .before .before .args in

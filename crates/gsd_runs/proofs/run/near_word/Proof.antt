@@ -1,38 +1,32 @@
+-- `gsd_runs::run::near_word` meets its contract.
 use mathlib.Core.Path.{sym, _∙_}
 use native.Mathlib.Omega.{arith}
 use Rattle.gsd_runs.proofs.Words.{text-image, text-sheet, word-number, word-whole}
 use Rattle.gsd_runs.proofs.run.near_word.Statement.{statement}
 use Rattle.gsd_runs.proofs.run.near_word.Tie as tie
 
--- src/run.rt:103:9
 returns : tie.Need-returns
 returns c =
     let x = c .before .before .before .before .args in
     sym (word-number (x .sheet .now) (x .image .now) (x .run) (x .w) (c .if1 .taken))
 
--- src/run.rt:105:24
 mul-i : tie.Need-mul-i
 mul-i c = omega (arith, c .before .before .before .before .pre .1 .whole (omega arith))
 
--- src/run.rt:105:13
 add-i : tie.Need-add-i
 add-i c = omega (arith, c .before .before .before .before .before .pre .1 .whole (omega arith))
 
--- src/run.rt:107:9
 u64-at-requires : tie.Need-u64-at-requires
 u64-at-requires c κs = omega (arith, c .before .before .before .before .before .before .before .pre .1 .whole (omega arith), c .before .before .before .before .before .before .before .pre .0 .image (c .if2 .taken))
 
--- src/run.rt:107:9
 returns-2 : tie.Need-returns-2
 returns-2 c =
     let x = c .before .before .before .before .before .before .before .before .args in
     c .u64-at .ensures ∙ sym (word-whole (x .sheet .now) (x .image .now) (x .run) (x .w) (x .image .now) (text-image _ _ (x .run) (c .before .if2 .taken)) (omega arith) (c .before .before .before .before .before .before .before .before .pre .1 .whole (omega arith)))
 
--- src/run.rt:109:5
 u64-at-requires-2 : tie.Need-u64-at-requires-2
 u64-at-requires-2 c κs = omega (arith, c .before .before .before .before .before .before .before .pre .1 .whole (omega arith), c .before .before .before .before .before .before .before .pre .0 .sheet (omega arith))
 
--- src/run.rt:98:1
 returns-3 : tie.Need-returns-3
 returns-3 c =
     let x = c .before .before .before .before .before .before .before .before .args in

@@ -1,26 +1,22 @@
+-- `gsd_runs::run::next_store` meets its contract.
 use native.Mathlib.Omega.{arith}
 use Rattle.gsd_runs.proofs.Words.{place-within}
 use borrow.Author.Needs.{needs}
 use Rattle.gsd_runs.proofs.run.next_store.Statement.{statement}
 use Rattle.gsd_runs.proofs.run.next_store.Tie as tie
 
--- src/run.rt:131:9
 word-at-requires : tie.Need-word-at-requires
 word-at-requires c κs = search needs
 
--- src/run.rt:132:21
 place-requires : tie.Need-place-requires
 place-requires c κs = search needs
 
--- src/run.rt:132:5
 put-word-requires : tie.Need-put-word-requires
 put-word-requires c κs = omega (arith, c .place .ensures, place-within (c .before .before .before .before .before .before .args .run) (c .before .before .before .before .before .before .args .w) (c .before .before .before .before .before .before .pre .1 .0))
 
--- src/run.rt:127:1
 same-length : tie.Need-same-length
 same-length c = search needs
 
--- src/run.rt:127:1
 returns : tie.Need-returns
 returns c = rw (c .before .before .put-word .ensures, c .before .before .before .place .ensures, c .before .before .before .before .before .word-at .ensures)
 

@@ -1,54 +1,44 @@
+-- `gsd_runs::run::over_byte` meets its contract.
 use mathlib.Core.Path.{sym, _∙_}
 use Rattle.gsd_runs.proofs.Words.{over-below, over-inside, over-above}
 use borrow.Author.Needs.{needs}
 use Rattle.gsd_runs.proofs.run.over_byte.Statement.{statement}
 use Rattle.gsd_runs.proofs.run.over_byte.Tie as tie
 
--- src/run.rt:59:21
 shared-slice-read-wide : tie.Need-shared-slice-read-wide
 shared-slice-read-wide c = search needs
 
--- src/run.rt:59:9
 wide-requires : tie.Need-wide-requires
 wide-requires c κs = search needs
 
--- src/run.rt:59:9
 returns : tie.Need-returns
 returns c =
     let x = c .before .before .before .before .before .args in
     (c .wide .ensures .0 ∙ sym (over-below (x .image .now) (x .sheet .now) (x .at) (x .from) (x .until) (search needs) (search needs) (x .i) (search needs)), search needs)
 
--- src/run.rt:62:12
 sub-if2 : tie.Need-sub-if2
 sub-if2 c = search needs
 
--- src/run.rt:63:27
 add-wide : tie.Need-add-wide
 add-wide c = search needs
 
--- src/run.rt:63:21
 shared-slice-read-wide-2 : tie.Need-shared-slice-read-wide-2
 shared-slice-read-wide-2 c = search needs
 
--- src/run.rt:63:9
 wide-requires-2 : tie.Need-wide-requires-2
 wide-requires-2 c κs = search needs
 
--- src/run.rt:63:9
 returns-2 : tie.Need-returns-2
 returns-2 c =
     let x = c .before .before .before .before .before .before .args in
     (c .wide2 .ensures .0 ∙ sym (over-inside (x .image .now) (x .sheet .now) (x .at) (x .from) (x .until) (search needs) (search needs) (x .i) (search needs) (search needs) (search needs)), search needs)
 
--- src/run.rt:65:10
 shared-slice-read-wide-3 : tie.Need-shared-slice-read-wide-3
 shared-slice-read-wide-3 c = search needs
 
--- src/run.rt:65:5
 wide-requires-3 : tie.Need-wide-requires-3
 wide-requires-3 c κs = search needs
 
--- src/run.rt:54:1
 returns-3 : tie.Need-returns-3
 returns-3 c =
     let x = c .before .before .before .before .before .before .args in

@@ -1,38 +1,31 @@
+-- `gsd_runs::run::place` meets its contract.
 use mathlib.Core.Path.{sym}
 use Rattle.gsd_runs.proofs.Words.{place-name, place-other}
 use borrow.Author.Needs.{needs}
 use Rattle.gsd_runs.proofs.run.place.Statement.{statement}
 use Rattle.gsd_runs.proofs.run.place.Tie as tie
 
--- src/run.rt:27:30
 sub-result : tie.Need-sub-result
 sub-result c = search needs
 
--- src/run.rt:27:30
 sub-result-2 : tie.Need-sub-result-2
 sub-result-2 c = search needs
 
--- src/run.rt:27:25
 mul-result : tie.Need-mul-result
 mul-result c = search needs
 
--- src/run.rt:27:16
 add-result : tie.Need-add-result
 add-result c = search needs
 
--- src/run.rt:27:9
 returns : tie.Need-returns
 returns c = sym (place-name (c .before .before .before .before .args .run) (c .before .before .before .before .args .w) (c .before .before .if1 .taken))
 
--- src/run.rt:29:14
 mul-result-2 : tie.Need-mul-result-2
 mul-result-2 c = search needs
 
--- src/run.rt:29:5
 add-result-2 : tie.Need-add-result-2
 add-result-2 c = search needs
 
--- src/run.rt:22:1
 returns-2 : tie.Need-returns-2
 returns-2 c = sym (place-other (c .before .before .before .args .run) (c .before .before .before .args .w) (c .before .if1 .left))
 

@@ -1,26 +1,22 @@
+-- `gsd_runs::run::source` meets its contract.
 use mathlib.Core.Path.{sym, _∙_}
 use Rattle.gsd_runs.proofs.Words.{source-name, source-other}
 use borrow.Author.Needs.{needs}
 use Rattle.gsd_runs.proofs.run.source.Statement.{statement}
 use Rattle.gsd_runs.proofs.run.source.Tie as tie
 
--- src/run.rt:37:9
 place-requires : tie.Need-place-requires
 place-requires c κs = search needs
 
--- src/run.rt:37:9
 returns : tie.Need-returns
 returns c = c .place .ensures ∙ sym (source-name (c .before .before .before .args .run) (c .before .before .before .args .w) (c .before .if1 .taken))
 
--- src/run.rt:39:16
 mul-result : tie.Need-mul-result
 mul-result c = search needs
 
--- src/run.rt:39:5
 add-result : tie.Need-add-result
 add-result c = search needs
 
--- src/run.rt:32:1
 returns-2 : tie.Need-returns-2
 returns-2 c = sym (source-other (c .before .before .before .args .run) (c .before .before .before .args .w) (c .before .if1 .left))
 

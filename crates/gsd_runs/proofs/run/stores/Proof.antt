@@ -1,3 +1,4 @@
+-- `gsd_runs::run::stores` meets its contract. Invariant: the stores from the i-th on lead to the same image.
 use borrow.Author.Needs.{needs}
 use Prim.Native.Nat.{_-_, _≤_}
 use mathlib.Core.Path.{_≡_, refl, sym, _∙_, ap}
@@ -22,61 +23,47 @@ Inv-loop2 image₀ sheet run w n e f i₀ image i = (i ≤ e) × ((length image 
 abbrev μ-loop2 : tie.MeasureT-loop2
 μ-loop2 image₀ sheet run w n e f i₀ image i = e - i
 
--- src/run.rt:158:13
 add-e : tie.Need-add-e Inv-loop μ-loop Inv-loop2 μ-loop2
 add-e c = omega (arith, c .before .before .pre .0 .room)
 
--- src/run.rt:159:9
 near-count-requires : tie.Need-near-count-requires Inv-loop μ-loop Inv-loop2 μ-loop2
 near-count-requires c κs = c .before .before .pre .0 .order
 
--- src/run.rt:161:5
 loop-holds : tie.Need-loop-holds Inv-loop μ-loop Inv-loop2 μ-loop2
 loop-holds c =
     let x = c .before .before .before .args in
     (search needs, (refl, ap (λ k. exec (x .sheet .now) (x .image .now) (stepsFrom (x .run) (x .w) k)) (add-sub-cancel-left (x .w) (x .n))))
 
--- src/run.rt:162:9
 next-store-requires : tie.Need-next-store-requires Inv-loop μ-loop Inv-loop2 μ-loop2
 next-store-requires c κs = (rw (c .before .before .loop .inv .1 .0) (c .before .before .before .before .before .before .pre .0), (search needs, λ _. c .before .before .before .near-count .ensures .1 _ (c .before .loop-test .taken)))
 
--- src/run.rt:163:9
 add-i : tie.Need-add-i Inv-loop μ-loop Inv-loop2 μ-loop2
 add-i c = search needs
 
--- src/run.rt:161:5
 loop-less : tie.Need-loop-less Inv-loop μ-loop Inv-loop2 μ-loop2
 loop-less c = search needs
 
--- src/run.rt:161:5
 loop-again : tie.Need-loop-again Inv-loop μ-loop Inv-loop2 μ-loop2
 loop-again c = (search needs, (c .before .before .next-store .kept .0 ∙ c .before .before .before .before .before .loop .inv .1 .0, rw (c .before .before .next-store .ensures) (sym (exec-next _ _ _ _ _ (omega arith)) ∙ c .before .before .before .before .before .loop .inv .1 .1)))
 
--- src/run.rt:165:5
 loop2-holds : tie.Need-loop2-holds Inv-loop μ-loop Inv-loop2 μ-loop2
 loop2-holds c = (search needs, (refl, refl))
 
--- src/run.rt:166:9
 next-store-requires-2 : tie.Need-next-store-requires-2 Inv-loop μ-loop Inv-loop2 μ-loop2
 next-store-requires-2 c κs = (rw (c .before .before .loop2 .inv .1 .0, c .before .before .before .before .loop .inv .1 .0) (c .before .before .before .before .before .before .before .before .pre .0), (search needs, λ t. absurd (true≢false (sym t))))
 
--- src/run.rt:167:9
 add-i-2 : tie.Need-add-i-2 Inv-loop μ-loop Inv-loop2 μ-loop2
 add-i-2 c = search needs
 
--- src/run.rt:165:5
 loop2-less : tie.Need-loop2-less Inv-loop μ-loop Inv-loop2 μ-loop2
 loop2-less c = search needs
 
--- src/run.rt:165:5
 loop2-again : tie.Need-loop2-again Inv-loop μ-loop Inv-loop2 μ-loop2
 loop2-again c = (search needs, (c .before .before .next-store2 .kept .0 ∙ c .before .before .before .before .before .loop2 .inv .1 .0, rw (c .before .before .next-store2 .ensures) (sym (exec-next _ _ _ _ _ (omega arith)) ∙ c .before .before .before .before .before .loop2 .inv .1 .1)))
 
--- src/run.rt:154:1
 same-length : tie.Need-same-length Inv-loop μ-loop Inv-loop2 μ-loop2
 same-length c = search needs
 
--- src/run.rt:154:1
 returns : tie.Need-returns Inv-loop μ-loop Inv-loop2 μ-loop2
 returns c = sym (exec-done _ _ _ _ _ (c .loop2-test .left)) ∙ c .before .loop2 .inv .1 .1 ∙ c .before .before .before .loop .inv .1 .1
 

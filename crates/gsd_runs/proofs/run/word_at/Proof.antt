@@ -1,26 +1,22 @@
+-- `gsd_runs::run::word_at` meets its contract.
 use mathlib.Core.Path.{sym, _∙_}
 use Rattle.gsd_runs.proofs.Words.{word-number, word-read}
 use borrow.Author.Needs.{needs}
 use Rattle.gsd_runs.proofs.run.word_at.Statement.{statement}
 use Rattle.gsd_runs.proofs.run.word_at.Tie as tie
 
--- src/run.rt:118:9
 near-word-requires : tie.Need-near-word-requires
 near-word-requires c κs = (c .before .before .before .pre .0, c .before .before .before .pre .1 .1 (c .if1 .taken))
 
--- src/run.rt:118:9
 returns : tie.Need-returns
 returns c = search needs
 
--- src/run.rt:121:9
 returns-2 : tie.Need-returns-2
 returns-2 c = let x = c .before .before .before .before .before .args in sym (word-number (x .sheet .now) (x .image .now) (x .run) (x .w) (c .if2 .taken))
 
--- src/run.rt:123:5
 far-word-requires : tie.Need-far-word-requires
 far-word-requires c κs = search needs
 
--- src/run.rt:113:1
 returns-3 : tie.Need-returns-3
 returns-3 c = let x = c .before .before .before .before .before .before .args in c .far-word .ensures ∙ sym (word-read (x .sheet .now) (x .image .now) (x .run) (x .w) (c .before .if2 .left))
 

@@ -14,81 +14,64 @@ Inv-loop image₀ sheet run word limit plan count r₀ w₀ left₀ image r w le
 abbrev μ-loop : tie.MeasureT-loop
 μ-loop image₀ sheet run word limit plan count r₀ w₀ left₀ image r w left = count - r
 
--- src/turn.rt:48:17
 add-count : tie.Need-add-count Inv-loop μ-loop
 add-count c = search needs
 
--- src/turn.rt:48:35
 mul-count : tie.Need-mul-count Inv-loop μ-loop
 mul-count c = search needs
 
--- src/turn.rt:48:17
 add-count-2 : tie.Need-add-count-2 Inv-loop μ-loop
 add-count-2 c = search needs
 
--- src/turn.rt:52:5
 loop-holds : tie.Need-loop-holds Inv-loop μ-loop
 loop-holds c = turning-none _ _ _ _ _ _ (c .before .before .pre .1)
 
--- src/turn.rt:53:13
 run-at-requires : tie.Need-run-at-requires Inv-loop μ-loop
 run-at-requires c κs = (search needs, (search needs, (c .before .before .before .before .before .before .before .before .before .before .before .loop-test .taken, good-half _ _ _ _ (search needs) (search needs) (c .before .before .before .before .before .before .before .before .before .before .before .before .before .before .before .pre .0) (c .before .before .before .before .before .before .before .before .before .before .before .loop-test .taken))))
 
--- src/turn.rt:70:13
 some-stores-requires : tie.Need-some-stores-requires Inv-loop μ-loop
 some-stores-requires c κs =
     let inside = runs-inside _ _ (c .before .before .before .before .before .before .before .before .before .before .before .before .before .loop-test .taken) in
     (run-good _ _ _ _ _ _ _ _ _ _ (c .before .before .before .before .before .before .before .before .before .before .before .before .before .before .loop .inv) _ (c .before .run-at .ensures) inside _ (c .before .before .before .before .before .before .before .before .before .before .before .before .before .before .before .before .before .pre .0), run-word _ _ _ _ _ _ _ _ _ _ (c .before .before .before .before .before .before .before .before .before .before .before .before .before .before .loop .inv) _ (c .before .run-at .ensures) inside)
 
--- src/turn.rt:71:9
 add-w : tie.Need-add-w Inv-loop μ-loop
 add-w c =
     let inside = runs-inside _ _ (c .before .before .before .before .before .before .before .before .before .before .before .before .before .before .before .before .loop-test .taken) in
     let good = run-good _ _ _ _ _ _ _ _ _ _ (c .before .before .before .before .before .before .before .before .before .before .before .before .before .before .before .before .before .loop .inv) _ (c .before .before .before .before .run-at .ensures) inside _ (c .before .before .before .before .before .before .before .before .before .before .before .before .before .before .before .before .before .before .before .before .pre .0) in
     omega (arith, c .before .before .some-stores .ensures .0, good .room, run-word _ _ _ _ _ _ _ _ _ _ (c .before .before .before .before .before .before .before .before .before .before .before .before .before .before .before .before .before .loop .inv) _ (c .before .before .before .before .run-at .ensures) inside)
 
--- src/turn.rt:72:9
 sub-left : tie.Need-sub-left Inv-loop μ-loop
 sub-left c = omega (arith, c .before .before .some-stores .ensures .0)
 
--- src/turn.rt:77:23
 sub-t35 : tie.Need-sub-t35 Inv-loop μ-loop
 sub-t35 c = omega (arith, c .before .before .before .before .before .before .before .before .before .before .before .before .before .before .before .before .before .before .before .loop .inv .free)
 
--- src/turn.rt:74:13
 same-length : tie.Need-same-length Inv-loop μ-loop
 same-length c = c .before .before .before .before .some-stores .kept .0 ∙ c .before .before .before .before .before .before .before .before .before .before .before .before .before .before .before .before .before .before .before .loop .inv .long
 
--- src/turn.rt:74:13
 returns : tie.Need-returns Inv-loop μ-loop
 returns c =
     let made = run-made _ _ _ _ _ _ _ _ _ _ (c .before .before .before .before .before .before .before .before .before .before .before .before .before .before .before .before .before .before .before .loop .inv) _ (c .before .before .before .before .before .before .run-at .ensures) (runs-inside _ _ (c .before .before .before .before .before .before .before .before .before .before .before .before .before .before .before .before .before .before .loop-test .taken)) _ (c .before .before .before .before .some-stores .ensures .0) in
     rw (c .before .before .before .before .some-stores .ensures .1) (turn-stop _ _ _ _ _ _ _ _ _ _ made (omega (arith, c .before .before .before .before .some-stores .ensures .0, c .if1 .taken)))
 
--- src/turn.rt:80:9
 add-r : tie.Need-add-r Inv-loop μ-loop
 add-r c = omega (arith, c .before .before .before .before .before .before .before .before .before .before .before .before .before .before .before .before .before .before .loop-test .taken, c .before .before .before .before .before .before .before .before .before .before .before .before .before .before .before .before .before .before .before .before .before .before .pre .0 .rows, c .before .before .before .before .before .before .before .before .before .before .before .before .before .before .before .before .before .before .before .before .before .before .pre .0 .fresh)
 
--- src/turn.rt:52:5
 loop-less : tie.Need-loop-less Inv-loop μ-loop
 loop-less c = search needs
 
--- src/turn.rt:52:5
 loop-again : tie.Need-loop-again Inv-loop μ-loop
 loop-again c =
     let inside = runs-inside _ _ (c .before .before .before .before .before .before .before .before .before .before .before .before .before .before .before .before .before .before .loop-test .taken) in
     let made = run-made _ _ _ _ _ _ _ _ _ _ (c .before .before .before .before .before .before .before .before .before .before .before .before .before .before .before .before .before .before .before .loop .inv) _ (c .before .before .before .before .before .before .run-at .ensures) inside _ (c .before .before .before .before .some-stores .ensures .0) in
     rw (c .before .before .before .before .some-stores .ensures .1) (run-over _ _ _ _ _ _ _ _ _ _ made _ (c .before .before .before .before .before .before .run-at .ensures) inside (c .if1 .left))
 
--- src/turn.rt:86:15
 sub-t36 : tie.Need-sub-t36 Inv-loop μ-loop
 sub-t36 c = search needs
 
--- src/turn.rt:37:1
 same-length-2 : tie.Need-same-length-2 Inv-loop μ-loop
 same-length-2 c = c .before .loop .inv .long
 
--- src/turn.rt:37:1
 returns-2 : tie.Need-returns-2 Inv-loop μ-loop
 returns-2 c = turn-end _ _ _ _ _ _ _ _ _ _ (c .before .loop .inv) (runs-over _ _ (c .loop-test .left))
 

@@ -14,27 +14,21 @@ Inv-loop plan count sum₀ r₀ sum r = (r ≤ count) × (sum ≡ counted plan r
 abbrev μ-loop : tie.MeasureT-loop
 μ-loop plan count sum₀ r₀ sum r = count - r
 
--- src/turn.rt:80:17
 add-count : tie.Need-add-count Inv-loop μ-loop
 add-count c = search needs
 
--- src/turn.rt:80:17
 add-count-2 : tie.Need-add-count-2 Inv-loop μ-loop
 add-count-2 c = search needs
 
--- src/turn.rt:81:19
 mul-sum : tie.Need-mul-sum Inv-loop μ-loop
 mul-sum c = search needs
 
--- src/turn.rt:83:5
 loop-holds : tie.Need-loop-holds Inv-loop μ-loop
 loop-holds c = (search needs, sym (counted-none (c .args .t1)))
 
--- src/turn.rt:84:13
 run-at-requires : tie.Need-run-at-requires Inv-loop μ-loop
 run-at-requires c κs = (search needs, (search needs, (omega arith, good-half _ _ _ _ (omega arith) (omega arith) (c .before .before .before .before .before .before .before .before .before .before .before .before .before .pre) (omega arith))))
 
--- src/turn.rt:101:9
 add-sum : tie.Need-add-sum Inv-loop μ-loop
 add-sum c =
     let p = c .before .before .before .before .before .before .before .before .before .before .before .before .before .before .args .t1 in
@@ -42,15 +36,12 @@ add-sum c =
     let more = counted-more p r (c .run-at .result) (c .run-at .ensures) (runs-inside p r (omega arith)) in
     omega (arith, c .before .before .before .before .before .before .before .before .before .before .before .before .before .loop .inv .1, more, counted-within p (r + 1) (omega arith), c .before .before .before .before .before .before .before .before .before .before .before .before .before .before .pre .count)
 
--- src/turn.rt:102:9
 add-r : tie.Need-add-r Inv-loop μ-loop
 add-r c = omega (arith, c .before .before .before .before .before .before .before .before .before .before .before .before .loop-test .taken, c .before .before .before .before .before .before .before .before .before .before .before .before .before .before .pre .rows, c .before .before .before .before .before .before .before .before .before .before .before .before .before .before .pre .fresh)
 
--- src/turn.rt:83:5
 loop-less : tie.Need-loop-less Inv-loop μ-loop
 loop-less c = search needs
 
--- src/turn.rt:83:5
 loop-again : tie.Need-loop-again Inv-loop μ-loop
 loop-again c =
     let p = c .before .before .before .before .before .before .before .before .before .before .before .before .before .before .args .t1 in
@@ -58,7 +49,6 @@ loop-again c =
     let more = counted-more p r (c .run-at .result) (c .run-at .ensures) (runs-inside p r (omega arith)) in
     (search needs, omega (arith, c .before .before .before .before .before .before .before .before .before .before .before .before .before .loop .inv .1, more))
 
--- src/turn.rt:76:1
 returns : tie.Need-returns Inv-loop μ-loop
 returns c =
     let p = c .before .before .args .t1 in
