@@ -13,6 +13,18 @@ use Rattle.gsd_sheet.specs.Rows.{Filled}
 use Rattle.gsd_parts.specs.Filling.{Laid, dataOffset, BodiesPlaced, nameOffset, NamesPlaced, EntriesFilled}
 use Rattle.gsd_sheet.proofs.Rows.{filled-none, filled-more, filled-to}
 
+-- One of a plan's arrays, filled up to place i
+
+pub record Upto (f : ℕ → ℕ) (l : List ℕ) (i : ℕ) : Type 0 where
+  pub long : length l ≡ 64
+  pub filled : Filled f l i
+
+upto-none : {f : ℕ → ℕ} {l : List ℕ} → length l ≡ 64 → Upto f l 0
+upto-none h = record { long = h; filled = filled-none }
+
+upto-more : {f : ℕ → ℕ} {l : List ℕ} {i v : ℕ} → Upto f l i → i < 64 → v ≡ f i → Upto f (set l i v) (i + 1)
+upto-more {l = l} {i = i} {v = v} h b e = record { long = length-set l i v ∙ h .long; filled = filled-more (h .filled) (omega (arith, h .long)) e }
+
 -- Data
 
 pub offset-none : (names bodies : List ℕ) → dataOffset names bodies 0 ≡ 0
@@ -32,19 +44,15 @@ offset-small names bodies count h (suc i) l =
 
 pub record Placing (names bodies : List ℕ) (count start : ℕ) (to until : List ℕ) (at i : ℕ) : Type 0 where
   pub within : i ≤ count
-  pub longTo : length to ≡ 64
-  pub longUntil : length until ≡ 64
-  pub placed : Filled (λ k. start + dataOffset names bodies k) to i
-  pub ended : Filled (λ k. getD names (k + 1) 0) until i
+  pub placed : Upto (λ k. start + dataOffset names bodies k) to i
+  pub ended : Upto (λ k. getD names (k + 1) 0) until i
   pub here : at ≡ start + dataOffset names bodies i
 
 pub placing-none : (names bodies : List ℕ) (count start : ℕ) (to until : List ℕ) → length to ≡ 64 → length until ≡ 64 → Placing names bodies count start to until start 0
 placing-none names bodies count start to until h g = record {
   within = omega arith;
-  longTo = h;
-  longUntil = g;
-  placed = filled-none;
-  ended = filled-none;
+  placed = upto-none h;
+  ended = upto-none g;
   here = omega (arith, offset-none names bodies);
 }
 
@@ -52,10 +60,8 @@ pub placing-more : (names bodies : List ℕ) (count start : ℕ) (to until : Lis
     Placing names bodies count start (set to i at) (set until i (getD names (i + 1) 0)) (at + (getD names (i + 1) 0 - getD bodies i 0 + 7) / 8 * 8) (i + 1)
 placing-more names bodies count start to until at i h f l = record {
   within = omega arith;
-  longTo = length-set to i at ∙ h .longTo;
-  longUntil = length-set until i (getD names (i + 1) 0) ∙ h .longUntil;
-  placed = filled-more (h .placed) (omega (arith, h .longTo)) (h .here);
-  ended = filled-more (h .ended) (omega (arith, h .longUntil)) refl;
+  placed = upto-more (h .placed) (omega arith) (h .here);
+  ended = upto-more (h .ended) (omega arith) refl;
   here = omega (arith, h .here, offset-more names bodies i);
 }
 
@@ -63,7 +69,7 @@ pub placing-all : (names bodies : List ℕ) (count start : ℕ) (to until : List
     BodiesPlaced names bodies count start (record { to = to; until = until; end = at })
 placing-all names bodies count start to until at i h l =
     let e : i ≡ count = omega (arith, h .within) in
-    record { to = filled-to e (h .placed); until = filled-to e (h .ended); end = h .here ∙ ap (λ k. start + dataOffset names bodies k) e }
+    record { to = filled-to e (h .placed .filled); until = filled-to e (h .ended .filled); end = h .here ∙ ap (λ k. start + dataOffset names bodies k) e }
 
 -- New names
 
@@ -84,24 +90,18 @@ name-small names bodies rows fresh h (suc j) l = omega (arith, name-small names 
 
 pub record Naming (names bodies rows : List ℕ) (fresh first : ℕ) (at from until : List ℕ) (next j : ℕ) : Type 0 where
   pub within : j ≤ fresh
-  pub longAt : length at ≡ 64
-  pub longFrom : length from ≡ 64
-  pub longUntil : length until ≡ 64
-  pub placed : Filled (λ k. first + nameOffset names bodies rows k) at j
-  pub begun : Filled (λ k. getD names (getD rows k 0) 0) from j
-  pub ended : Filled (λ k. getD bodies (getD rows k 0) 0) until j
+  pub placed : Upto (λ k. first + nameOffset names bodies rows k) at j
+  pub begun : Upto (λ k. getD names (getD rows k 0) 0) from j
+  pub ended : Upto (λ k. getD bodies (getD rows k 0) 0) until j
   pub here : next ≡ first + nameOffset names bodies rows j
 
 pub naming-none : (names bodies rows : List ℕ) (fresh first : ℕ) (at from until : List ℕ) → length at ≡ 64 → length from ≡ 64 → length until ≡ 64 →
     Naming names bodies rows fresh first at from until first 0
 naming-none names bodies rows fresh first at from until h g k = record {
   within = omega arith;
-  longAt = h;
-  longFrom = g;
-  longUntil = k;
-  placed = filled-none;
-  begun = filled-none;
-  ended = filled-none;
+  placed = upto-none h;
+  begun = upto-none g;
+  ended = upto-none k;
   here = omega (arith, name-none names bodies rows);
 }
 
@@ -110,12 +110,9 @@ pub naming-more : (names bodies rows : List ℕ) (fresh first : ℕ) (at from un
     (next + (getD bodies (getD rows j 0) 0 - getD names (getD rows j 0) 0) + 1) (j + 1)
 naming-more names bodies rows fresh first at from until next j h f l = record {
   within = omega arith;
-  longAt = length-set at j next ∙ h .longAt;
-  longFrom = length-set from j (getD names (getD rows j 0) 0) ∙ h .longFrom;
-  longUntil = length-set until j (getD bodies (getD rows j 0) 0) ∙ h .longUntil;
-  placed = filled-more (h .placed) (omega (arith, h .longAt)) (h .here);
-  begun = filled-more (h .begun) (omega (arith, h .longFrom)) refl;
-  ended = filled-more (h .ended) (omega (arith, h .longUntil)) refl;
+  placed = upto-more (h .placed) (omega arith) (h .here);
+  begun = upto-more (h .begun) (omega arith) refl;
+  ended = upto-more (h .ended) (omega arith) refl;
   here = omega (arith, h .here, name-more names bodies rows j);
 }
 
@@ -123,7 +120,7 @@ pub naming-all : (names bodies rows : List ℕ) (fresh first : ℕ) (at from unt
     NamesPlaced names bodies rows fresh first (record { at = at; from = from; until = until })
 naming-all names bodies rows fresh first at from until next j h l =
     let e : j ≡ fresh = omega (arith, h .within) in
-    record { at = filled-to e (h .placed); from = filled-to e (h .begun); until = filled-to e (h .ended) }
+    record { at = filled-to e (h .placed .filled); from = filled-to e (h .begun .filled); until = filled-to e (h .ended .filled) }
 
 -- The numbers of the new entries
 
@@ -136,22 +133,16 @@ metaOf sheet order s = le 4 sheet (rowAt (rowOf order s) + 8) + 4294967296 * (ge
 
 pub record Numbering (sheet order to : List ℕ) (count : ℕ) (n meta location : List ℕ) (s : ℕ) : Type 0 where
   pub within : s ≤ count
-  pub longN : length n ≡ 64
-  pub longMeta : length meta ≡ 64
-  pub longLocation : length location ≡ 64
-  pub ns : Filled (λ k. le 8 sheet (rowAt (rowOf order k))) n s
-  pub metas : Filled (metaOf sheet order) meta s
-  pub locations : Filled (λ k. getD to (rowOf order k) 0) location s
+  pub ns : Upto (λ k. le 8 sheet (rowAt (rowOf order k))) n s
+  pub metas : Upto (metaOf sheet order) meta s
+  pub locations : Upto (λ k. getD to (rowOf order k) 0) location s
 
 pub numbering-none : (sheet order to : List ℕ) (count : ℕ) (n meta location : List ℕ) → length n ≡ 64 → length meta ≡ 64 → length location ≡ 64 → Numbering sheet order to count n meta location 0
 numbering-none sheet order to count n meta location h g k = record {
   within = omega arith;
-  longN = h;
-  longMeta = g;
-  longLocation = k;
-  ns = filled-none;
-  metas = filled-none;
-  locations = filled-none;
+  ns = upto-none h;
+  metas = upto-none g;
+  locations = upto-none k;
 }
 
 pub numbering-more : (sheet order to : List ℕ) (count : ℕ) (n meta location : List ℕ) (s a b : ℕ) → Numbering sheet order to count n meta location s → count ≤ 64 → s < count →
@@ -159,16 +150,13 @@ pub numbering-more : (sheet order to : List ℕ) (count : ℕ) (n meta location 
     Numbering sheet order to count (set n s a) (set meta s b) (set location s (getD to (rowOf order s) 0)) (s + 1)
 numbering-more sheet order to count n meta location s a b h f l p q = record {
   within = omega arith;
-  longN = length-set n s a ∙ h .longN;
-  longMeta = length-set meta s b ∙ h .longMeta;
-  longLocation = length-set location s (getD to (rowOf order s) 0) ∙ h .longLocation;
-  ns = filled-more (h .ns) (omega (arith, h .longN)) p;
-  metas = filled-more (h .metas) (omega (arith, h .longMeta)) q;
-  locations = filled-more (h .locations) (omega (arith, h .longLocation)) refl;
+  ns = upto-more (h .ns) (omega arith) p;
+  metas = upto-more (h .metas) (omega arith) q;
+  locations = upto-more (h .locations) (omega arith) refl;
 }
 
 pub numbering-all : (sheet order to : List ℕ) (count : ℕ) (n meta location : List ℕ) (s : ℕ) → Numbering sheet order to count n meta location s → count ≤ s →
     EntriesFilled sheet order to count (record { n = n; meta = meta; location = location })
 numbering-all sheet order to count n meta location s h l =
     let e : s ≡ count = omega (arith, h .within) in
-    record { n = filled-to e (h .ns); meta = filled-to e (h .metas); location = filled-to e (h .locations) }
+    record { n = filled-to e (h .ns .filled); meta = filled-to e (h .metas .filled); location = filled-to e (h .locations .filled) }
