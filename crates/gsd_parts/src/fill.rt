@@ -1,8 +1,12 @@
 // The plan's arrays: where data and new names go, and the numbers of the new entries.
+ghost use mathlib.Core.Path.{_≡_};
 ghost use Prim.Native.Nat.{ℕ, _+_, _*_, _/_, _%_, _≤_, _<_};
 ghost use lib.ListN.{length, getD};
+ghost use Rattle.gsd_format.specs.Bytes.{le};
+ghost use Rattle.gsd_stores.specs.Sheet.{rowKind};
 ghost use Rattle.gsd_stores.proofs.Sheet.{rowAt};
 ghost use Rattle.gsd_parts.specs.Filling.{Laid, BodiesPlaced, NamesPlaced, EntriesFilled};
+use gsd_bytes::wide;
 use gsd_sheet::row_kind;
 use gsd_sheet::row_m;
 use gsd_sheet::row_n;
@@ -80,6 +84,14 @@ pub struct EntryNumbers {
     pub location: [u64; 64],
 }
 
+// M, id and type of a row as one number.
+fn meta_of(sheet: &[u8], row: usize, id: u64) -> u64
+    requires { ⌜ (rowAt row + 16 ≤ length (now sheet)) × (id < 65536) ⌝ }
+    ensures { λ r. ⌜ r ≡ le 4 (now (sheet .entry)) (rowAt row + 8) + 4294967296 * id + 281474976710656 * rowKind (now (sheet .entry)) (rowAt row) ⌝ }
+{
+    row_m(sheet, row) + 4294967296 * id + 281474976710656 * wide(row_kind(sheet, row))
+}
+
 // order[s] is 64 times the id, plus the row, of the entry in slot s; to[row] is where that row's data go.
 pub fn fill_entries(sheet: &[u8], order: &[u64; 64], to: &[usize; 64], count: usize) -> EntryNumbers
     requires { ⌜ (count ≤ 64) × (rowAt count ≤ length (now sheet)) × ((s : ℕ) → s < count → getD (now order) s 0 % 64 < count)
@@ -94,9 +106,7 @@ pub fn fill_entries(sheet: &[u8], order: &[u64; 64], to: &[usize; 64], count: us
         let packed = order[s];
         let row = (packed % 64) as usize;
         n[s] = row_n(sheet, row);
-        meta[s] = row_m(sheet, row)
-            + 4294967296 * (packed / 64)
-            + 281474976710656 * gsd_bytes::wide(row_kind(sheet, row));
+        meta[s] = meta_of(sheet, row, packed / 64);
         location[s] = to[row] as u64;
         s += 1;
     }
