@@ -1,3 +1,3 @@
--- What the append's code does, step by step.
+-- What a plan is that carries out an append, and what the planner goes by.
 pub mod Matches
 pub mod Planning
