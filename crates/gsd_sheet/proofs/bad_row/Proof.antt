@@ -23,7 +23,8 @@ name-size-requires c κs = search needs
 
 returns-2 : tie.Need-returns-2
 returns-2 c =
-    let x = c .before .before .before .before .before .before .args in
+    let start = c .before .before .before .before .before .before in
+    let x = start .args in
     let size = kind-size (x .sheet .now) (rowAt (x .i)) _ _ (c .before .before .before .before .row-kind .ensures) (c .before .before .before .size-of .ensures .0) in
     sym (bad-name (x .sheet .now) (rowAt (x .i)) (λ e. c .before .before .if1 .left (size ∙ e)) (sym (c .before .name-size .ensures .0) ∙ c .if2 .taken))
 
@@ -41,7 +42,8 @@ u16-at-requires c κs = search needs
 
 returns-3 : tie.Need-returns-3
 returns-3 c =
-    let x = c .before .before .before .before .before .before .before .args in
+    let start = c .before .before .before .before .before .before .before in
+    let x = start .args in
     let size = kind-size (x .sheet .now) (rowAt (x .i)) _ _ (c .before .before .before .before .before .row-kind .ensures) (c .before .before .before .before .size-of .ensures .0) in
     rw (c .u16-at .ensures .0)
     (sym (bad-spare (x .sheet .now) (rowAt (x .i)) (λ e. c .before .before .before .if1 .left (size ∙ e)) (λ e. c .before .if2 .left (c .before .before .name-size .ensures .0 ∙ e))))

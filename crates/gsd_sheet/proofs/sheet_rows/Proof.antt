@@ -44,7 +44,10 @@ names-number-requires c κs =
 -- past the table and the end the names decide
 decided : (c : tie.After-names-number) → let s = c .before .before .before .before .before .before .before .before .before .before .args .sheet .now in sheetTest s ≡ namesTest s
 decided c =
-    number-names (c .before .before .before .before .before .before .before .before .before .before .args .sheet .now) (sym (c .before .before .before .before .before .before .before .before .table-number .ensures) ∙ c .before .before .before .before .before .before .before .if1 .left)
+    let if1 = c .before .before .before .before .before .before .before .if1 in
+    let table-number = c .before .before .before .before .before .before .before .before .table-number in
+    let start = c .before .before .before .before .before .before .before .before .before .before in
+    number-names (start .args .sheet .now) (sym (table-number .ensures) ∙ if1 .left)
     (sym (c .before .before .before .before .before .place-rows .ensures .number) ∙ c .before .before .before .before .if2 .left)
 
 refused-requires-2 : tie.Need-refused-requires-2

@@ -28,7 +28,9 @@ add-if4 : tie.Need-add-if4
 add-if4 c = search needs
 
 returns-4 : tie.Need-returns-4
-returns-4 c = sym (table-cut (c .before .before .before .before .before .before .args .sheet .now) (omega arith) (omega arith) (omega arith) (omega arith))
+returns-4 c =
+    let start = c .before .before .before .before .before .before in
+    sym (table-cut (start .args .sheet .now) (omega arith) (omega arith) (omega arith) (omega arith))
 
 bad-table-requires : tie.Need-bad-table-requires
 bad-table-requires c κs = search needs
@@ -36,14 +38,16 @@ bad-table-requires c κs = search needs
 returns-5 : tie.Need-returns-5
 unfolding _⇒_
 returns-5 c =
-    let s = c .before .before .before .before .before .before .before .before .args .sheet .now in
+    let start = c .before .before .before .before .before .before .before .before in
+    let s = start .args .sheet .now in
     let e : badTable s 4 (rowCount s) ≡ true = rw (c .before .before .before .before .before .u32-at .ensures .0) at (sym (c .before .bad-table .ensures) ∙ c .if5 .taken) in
     sym (table-whole s (omega arith) (omega arith) (omega arith) (omega arith) ∙ rw (e, _⇒_))
 
 returns-6 : tie.Need-returns-6
 unfolding _⇒_
 returns-6 c =
-    let s = c .before .before .before .before .before .before .before .before .args .sheet .now in
+    let start = c .before .before .before .before .before .before .before .before in
+    let s = start .args .sheet .now in
     let e : badTable s 4 (rowCount s) ≡ false = rw (c .before .before .before .before .before .u32-at .ensures .0) at (sym (c .before .bad-table .ensures) ∙ c .if5 .left) in
     sym (table-whole s (omega arith) (omega arith) (omega arith) (omega arith) ∙ rw (e, _⇒_))
 

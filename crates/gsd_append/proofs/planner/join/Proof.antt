@@ -18,7 +18,9 @@ add-place-names : tie.Need-add-place-names
 add-place-names c = omega (arith, block-small (c .before .before .before .before .pre) _ (c .before .before .chosen .ensures))
 
 place-names-requires : tie.Need-place-names-requires
-place-names-requires c κs = (c .before .before .before .before .pre .fewNew, block-small (c .before .before .before .before .pre) _ (c .before .before .chosen .ensures), c .before .before .before .before .pre .rows, c .before .before .before .before .pre .name, c .before .before .before .before .pre .short)
+place-names-requires c κs =
+    let start = c .before .before .before .before in
+    (start .pre .fewNew, block-small (start .pre) _ (c .before .before .chosen .ensures), start .pre .rows, start .pre .name, start .pre .short)
 
 fill-entries-requires : tie.Need-fill-entries-requires
 fill-entries-requires c κs = search needs
@@ -27,10 +29,17 @@ mul-t28 : tie.Need-mul-t28
 mul-t28 c = search needs
 
 add-t27 : tie.Need-add-t27
-add-t27 c = omega (arith, index-small (c .before .before .before .before .before .before .before .before .before .before .before .before .before .before .before .before .pre) _ (c .before .before .before .before .before .before .before .before .before .before .before .before .before .chosen2 .ensures))
+add-t27 c =
+    let chosen2 = c .before .before .before .before .before .before .before .before .before .before .before .before .before .chosen2 in
+    let start = c .before .before .before .before .before .before .before .before .before .before .before .before .before .before .before .before in
+    omega (arith, index-small (start .pre) _ (chosen2 .ensures))
 
 returns : tie.Need-returns
-returns c = joined _ _ _ _ _ _ _ _ _ _ _ _ _ _ _ (c .before .before .before .before .before .before .before .before .before .before .before .before .before .before .chosen .ensures) (c .before .before .before .before .before .before .before .before .before .before .before .before .before .chosen2 .ensures) (c .before .before .before .before .before .before .before .before .before .before .before .place-names .ensures) (c .before .before .before .fill-entries .ensures)
+returns c =
+    let place-names = c .before .before .before .before .before .before .before .before .before .before .before .place-names in
+    let chosen2 = c .before .before .before .before .before .before .before .before .before .before .before .before .before .chosen2 in
+    let chosen = c .before .before .before .before .before .before .before .before .before .before .before .before .before .before .chosen in
+    joined _ _ _ _ _ _ _ _ _ _ _ _ _ _ _ (chosen .ensures) (chosen2 .ensures) (place-names .ensures) (c .before .before .before .fill-entries .ensures)
 
 pub join-spec : {M : Type 1} → statement M
 join-spec =

@@ -23,7 +23,9 @@ element-copy-out-packed : tie.Need-element-copy-out-packed Inv-loop μ-loop
 element-copy-out-packed c = search needs
 
 row-n-requires : tie.Need-row-n-requires Inv-loop μ-loop
-row-n-requires c κs = omega (arith, c .before .before .before .before .pre .1, c .before .before .before .before .pre .2 (c .before .before .loop .s) (c .before .loop-test .taken))
+row-n-requires c κs =
+    let start = c .before .before .before .before in
+    omega (arith, start .pre .1, start .pre .2 (c .before .before .loop .s) (c .before .loop-test .taken))
 
 mul-n : tie.Need-mul-n Inv-loop μ-loop
 mul-n c = search needs
@@ -32,7 +34,11 @@ array-write-n : tie.Need-array-write-n Inv-loop μ-loop
 array-write-n c = search needs
 
 meta-of-requires : tie.Need-meta-of-requires Inv-loop μ-loop
-meta-of-requires c κs = (omega (arith, c .before .before .before .before .before .pre .1, c .before .before .before .before .before .pre .2 (c .before .before .before .loop .s) (c .before .before .loop-test .taken)), c .before .before .before .before .before .pre .3 (c .before .before .before .loop .s) (c .before .before .loop-test .taken))
+meta-of-requires c κs =
+    let loop-test = c .before .before .loop-test in
+    let loop = c .before .before .before .loop in
+    let start = c .before .before .before .before .before in
+    (omega (arith, start .pre .1, start .pre .2 (loop .s) (loop-test .taken)), start .pre .3 (loop .s) (loop-test .taken))
 
 mul-meta : tie.Need-mul-meta Inv-loop μ-loop
 mul-meta c = search needs
@@ -59,7 +65,9 @@ loop-less : tie.Need-loop-less Inv-loop μ-loop
 loop-less c = search needs
 
 loop-again : tie.Need-loop-again Inv-loop μ-loop
-loop-again c = numbering-more _ _ _ _ _ _ _ _ _ _ (c .before .before .before .before .before .loop .inv) (c .before .before .before .before .before .before .before .pre .0) (c .before .before .before .before .loop-test .taken) (c .before .before .row-n .ensures) (c .before .meta-of .ensures)
+loop-again c =
+    let start = c .before .before .before .before .before .before .before in
+    numbering-more _ _ _ _ _ _ _ _ _ _ (c .before .before .before .before .before .loop .inv) (start .pre .0) (c .before .before .before .before .loop-test .taken) (c .before .before .row-n .ensures) (c .before .meta-of .ensures)
 
 returns : tie.Need-returns Inv-loop μ-loop
 returns c = numbering-all _ _ _ _ _ _ _ _ (c .before .loop .inv) (c .loop-test .left)

@@ -56,10 +56,18 @@ sub-next : tie.Need-sub-next Inv-loop μ-loop
 sub-next c = c .before .before .before .before .before .pre .3 (c .before .before .before .before .loop .j) (c .before .before .before .loop-test .taken)
 
 add-next : tie.Need-add-next Inv-loop μ-loop
-add-next c = omega (arith, c .before .before .before .before .before .pre .3 (c .before .before .before .before .loop .j) (c .before .before .before .loop-test .taken), c .before .before .before .before .before .pre .4 (c .before .before .before .before .loop .j) (c .before .before .before .loop-test .taken), c .before .before .before .before .loop .inv .here, name-small (c .before .before .before .before .before .args .names .now) (c .before .before .before .before .before .args .bodies .now) (c .before .before .before .before .before .args .rows .now) (c .before .before .before .before .before .args .fresh) (c .before .before .before .before .before .pre .4) (c .before .before .before .before .loop .j) (omega arith), c .before .before .before .before .before .pre .0)
+add-next c =
+    let loop-test = c .before .before .before .loop-test in
+    let loop = c .before .before .before .before .loop in
+    let start = c .before .before .before .before .before in
+    omega (arith, start .pre .3 (loop .j) (loop-test .taken), start .pre .4 (loop .j) (loop-test .taken), loop .inv .here, name-small (start .args .names .now) (start .args .bodies .now) (start .args .rows .now) (start .args .fresh) (start .pre .4) (loop .j) (omega arith), start .pre .0)
 
 add-next-2 : tie.Need-add-next-2 Inv-loop μ-loop
-add-next-2 c = omega (arith, c .before .before .before .before .before .pre .3 (c .before .before .before .before .loop .j) (c .before .before .before .loop-test .taken), c .before .before .before .before .before .pre .4 (c .before .before .before .before .loop .j) (c .before .before .before .loop-test .taken), c .before .before .before .before .loop .inv .here, name-small (c .before .before .before .before .before .args .names .now) (c .before .before .before .before .before .args .bodies .now) (c .before .before .before .before .before .args .rows .now) (c .before .before .before .before .before .args .fresh) (c .before .before .before .before .before .pre .4) (c .before .before .before .before .loop .j) (omega arith), c .before .before .before .before .before .pre .0)
+add-next-2 c =
+    let loop-test = c .before .before .before .loop-test in
+    let loop = c .before .before .before .before .loop in
+    let start = c .before .before .before .before .before in
+    omega (arith, start .pre .3 (loop .j) (loop-test .taken), start .pre .4 (loop .j) (loop-test .taken), loop .inv .here, name-small (start .args .names .now) (start .args .bodies .now) (start .args .rows .now) (start .args .fresh) (start .pre .4) (loop .j) (omega arith), start .pre .0)
 
 add-j : tie.Need-add-j Inv-loop μ-loop
 add-j c = search needs

@@ -67,7 +67,8 @@ loop-less c = search needs
 
 loop-again : tie.Need-loop-again Inv-loop μ-loop
 loop-again c =
-    let pre = c .before .before .before .before .before .before .before .before .before .pre in
+    let start = c .before .before .before .before .before .before .before .before .before in
+    let pre = start .pre in
     let row = c .before .before .before .before .before .before in (
       row-listed _ _ (count-in _ _ _) (pre .1 .1 .0) (row .loop .inv .0) (omega arith) _ (c .before .before .id-of .ensures) (c .before .if1 .taken) _ (c .pair .ensures),
       omega (arith, located-room (pre .1 .1 .0) (row .loop .i) (omega arith), located-end (pre .1 .1 .0) (row .loop .i) (omega arith)),
@@ -111,7 +112,8 @@ loop-less-2 c = search needs
 
 loop-again-2 : tie.Need-loop-again-2 Inv-loop μ-loop
 loop-again-2 c =
-    let pre = c .before .before .before .before .before .before .before .before .before .pre in
+    let start = c .before .before .before .before .before .before .before .before .before in
+    let pre = start .pre in
     let row = c .before .before .before .before .before .before in (
       row-new _ _ (count-in _ _ _) (pre .1 .1 .0) (row .loop .inv .0) (omega arith) _ (c .before .before .id-of .ensures) (pre .1 .1 .1 .1) (c .before .if1 .left) _
           (c .pair2 .ensures),

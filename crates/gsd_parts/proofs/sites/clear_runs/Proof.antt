@@ -54,12 +54,14 @@ number-run-requires-2 c κs = search needs
 
 returns : tie.Need-returns
 returns c =
-    let first : ℕ = c .before .before .before .before .before .before .before .args .end / 8 * 8 in
-    let words : ℕ = (c .before .before .before .before .before .before .before .args .l .namelist + 64 * c .before .before .before .before .before .before .before .args .l .segments - first) / 8 in
+    let at-most-one = c .before .before .before .before .at-most-one in
+    let start = c .before .before .before .before .before .before .before in
+    let first : ℕ = start .args .end / 8 * 8 in
+    let words : ℕ = (start .args .l .namelist + 64 * start .args .l .segments - first) / 8 in
     λ i. record {
       index = c .before .before .before .number-run .ensures i;
-      keep = (c .before .before .copy-run .ensures ∙ ap (λ k. copied first k first (c .before .before .before .before .before .before .before .args .end)) (c .before .before .before .before .at-most-one .ensures)) i;
-      names = (c .number-run2 .ensures ∙ (λ j. number (first + 8 * c .before .before .before .before .at-most-one .ensures j) (c .before .less-one .ensures j) 0)) i;
+      keep = (c .before .before .copy-run .ensures ∙ ap (λ k. copied first k first (start .args .end)) (at-most-one .ensures)) i;
+      names = (c .number-run2 .ensures ∙ (λ j. number (first + 8 * at-most-one .ensures j) (c .before .less-one .ensures j) 0)) i;
     }
 
 pub clear-runs-spec : {M : Type 1} → statement M

@@ -34,19 +34,22 @@ behind-requires-2 c κs = search needs
 
 returns : tie.Need-returns
 returns c =
-    let end : ℕ = c .before .before .before .before .before .before .args .end in
-    let nm : Bool = ltb (64 * c .before .before .before .before .before .before .args .l .segments) (c .before .before .before .before .before .before .args .bytes) in
-    let im : Bool = ltb (c .before .before .before .before .before .before .args .l .slots) (c .before .before .before .before .before .before .args .count) in
-    let names : c .before .behind .result ≡ cond nm (end + 64 * grown ((c .before .before .before .before .before .before .args .bytes + 63) / 64) (c .before .before .before .before .before .before .args .l .segments)) end
-    = c .before .behind .ensures .0 ∙ ap (λ s. cond nm (end + 64 * s) end) (c .before .before .before .before .before .grown-count .ensures .0) in
+    let grown-count2 = c .before .before .before .before .grown-count2 in
+    let grown-count = c .before .before .before .before .before .grown-count in
+    let start = c .before .before .before .before .before .before in
+    let end : ℕ = start .args .end in
+    let nm : Bool = ltb (64 * start .args .l .segments) (start .args .bytes) in
+    let im : Bool = ltb (start .args .l .slots) (start .args .count) in
+    let names : c .before .behind .result ≡ cond nm (end + 64 * grown ((start .args .bytes + 63) / 64) (start .args .l .segments)) end
+    = c .before .behind .ensures .0 ∙ ap (λ s. cond nm (end + 64 * s) end) (grown-count .ensures .0) in
     λ i. record {
       body = end;
       «names_move» = nm;
-      segments = c .before .before .before .before .before .grown-count .ensures .0 i;
+      segments = grown-count .ensures .0 i;
       names = names i;
       «index_moves» = im;
-      slots = c .before .before .before .before .grown-count2 .ensures .0 i;
-      last = (c .behind2 .ensures .0 ∙ (λ j. cond im (names j + 32 * c .before .before .before .before .grown-count2 .ensures .0 j) (names j))) i;
+      slots = grown-count2 .ensures .0 i;
+      last = (c .behind2 .ensures .0 ∙ (λ j. cond im (names j + 32 * grown-count2 .ensures .0 j) (names j))) i;
     }
 
 pub find-sites-spec : {M : Type 1} → statement M

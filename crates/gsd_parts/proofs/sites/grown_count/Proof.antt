@@ -35,11 +35,13 @@ loop-again c =
     (omega arith, omega arith, doubled-step (c .before .before .before .args .need) (c .before .loop .count) (c .before .loop .inv .0) (c .loop-test .taken) ∙ c .before .loop .inv .2)
 
 returns : tie.Need-returns Inv-loop μ-loop
-returns c = (
-  sym (doubled-done (c .before .before .before .args .need) (c .before .before .before .args .need) (c .before .loop .count) (c .loop-test .left)) ∙ c .before .loop .inv .2
-      ∙ ap (λ k. doubled (c .before .before .before .args .need) (c .before .before .before .args .need) (2 * k)) (c .before .before .greater .ensures),
-  omega (arith, c .before .loop .inv .1, c .before .before .greater .ensures),
-)
+returns c =
+    let greater = c .before .before .greater in
+    let start = c .before .before .before in (
+      sym (doubled-done (start .args .need) (start .args .need) (c .before .loop .count) (c .loop-test .left)) ∙ c .before .loop .inv .2
+          ∙ ap (λ k. doubled (start .args .need) (start .args .need) (2 * k)) (greater .ensures),
+      omega (arith, c .before .loop .inv .1, greater .ensures),
+    )
 
 pub grown-count-spec : {M : Type 1} → statement M
 grown-count-spec =

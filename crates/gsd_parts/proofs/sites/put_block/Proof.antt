@@ -25,7 +25,9 @@ put-run-requires-4 : tie.Need-put-run-requires-4
 put-run-requires-4 c κs = search needs
 
 returns : tie.Need-returns
-returns c = rw (c .put-run4 .ensures, c .before .before .put-run3 .ensures, c .before .before .before .before .put-run2 .ensures, c .before .before .before .before .before .before .put-run .ensures)
+returns c =
+    let put-run = c .before .before .before .before .before .before .put-run in
+    rw (c .put-run4 .ensures, c .before .before .put-run3 .ensures, c .before .before .before .before .put-run2 .ensures, put-run .ensures)
 
 pub put-block-spec : {M : Type 1} → statement M
 put-block-spec =

@@ -42,7 +42,9 @@ head-at-requires-3 : tie.Need-head-at-requires-3
 head-at-requires-3 c κs = search needs
 
 returns-5 : tie.Need-returns-5
-returns-5 c = c .head-at3 .ensures ∙ slots-at (c .before .before .before .before .before .before .args .heads .now) _ (c .before .if5 .taken) ∙ sym (at-slots _ _ (c .before .before .before .before .before .if1 .left) (c .before .before .before .before .if2 .left) (c .before .before .before .if3 .left) (c .before .before .if4 .left) (c .before .if5 .taken))
+returns-5 c =
+    let start = c .before .before .before .before .before .before in
+    c .head-at3 .ensures ∙ slots-at (start .args .heads .now) _ (c .before .if5 .taken) ∙ sym (at-slots _ _ (c .before .before .before .before .before .if1 .left) (c .before .before .before .before .if2 .left) (c .before .before .before .if3 .left) (c .before .before .if4 .left) (c .before .if5 .taken))
 
 entry-at-requires : tie.Need-entry-at-requires
 entry-at-requires c κs = (search needs, (search needs, entry-fits _ _ _ _ (c .before .before .before .before .before .pre .1 .1 .1) _ (at-entry _ _ (c .before .before .before .before .if1 .left) (c .before .before .before .if2 .left) (c .before .before .if3 .left) (c .before .if4 .left) (c .if5 .left) (search needs))))

@@ -12,10 +12,14 @@ wide-requires : tie.Need-wide-requires
 wide-requires c κs = search needs
 
 returns : tie.Need-returns
-returns c = (c .wide .ensures .0 ∙ sym (cut-before (c .before .before .before .before .args .s .now) (c .before .before .before .before .args .until) (c .before .before .before .before .args .i) (c .before .before .if1 .taken)), search needs)
+returns c =
+    let start = c .before .before .before .before in
+    (c .wide .ensures .0 ∙ sym (cut-before (start .args .s .now) (start .args .until) (start .args .i) (c .before .before .if1 .taken)), search needs)
 
 returns-2 : tie.Need-returns-2
-returns-2 c = (sym (cut-behind (c .before .before .args .s .now) (c .before .before .args .until) (c .before .before .args .i) (c .if1 .left)), search needs)
+returns-2 c =
+    let start = c .before .before in
+    (sym (cut-behind (start .args .s .now) (start .args .until) (start .args .i) (c .if1 .left)), search needs)
 
 pub cut-byte-spec : {M : Type 1} → statement M
 cut-byte-spec = tie.close (tie.spec shared-slice-read-wide wide-requires returns returns-2)

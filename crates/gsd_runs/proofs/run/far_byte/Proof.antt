@@ -20,11 +20,14 @@ cut-byte-requires-2 c κs = c .before .before .before .before .before .before .p
 
 returns-2 : tie.Need-returns-2
 returns-2 c =
-    let x = c .before .before .before .before .before .before .before .args in
+    let start = c .before .before .before .before .before .before .before in
+    let x = start .args in
     (c .cut-byte2 .ensures .0 ∙ sym (ap (λ l. getD l (x .i) 0) (text-sheet (x .sheet .now) (x .image .now) (x .run) (c .before .if2 .taken))), search needs)
 
 over-byte-requires : tie.Need-over-byte-requires
-over-byte-requires c κs = omega (arith, c .before .before .before .before .before .before .pre .0 .name (omega arith), c .before .before .before .before .before .before .pre .1 .1 (omega arith))
+over-byte-requires c κs =
+    let start = c .before .before .before .before .before .before in
+    omega (arith, start .pre .0 .name (omega arith), start .pre .1 .1 (omega arith))
 
 returns-3 : tie.Need-returns-3
 returns-3 c =

@@ -34,33 +34,38 @@ far-byte-requires c κs = let g = c .before .before .before .before .before .pre
 
 mul-v : tie.Need-mul-v Inv-loop μ-loop
 mul-v c =
-    let l = bytes-before 8 (c .far-byte .result) (c .before .before .loop .v) (c .before .before .loop .k) (omega arith) (omega arith) (c .far-byte .ensures .1) (c .before .before .loop .inv .1 .1) in
-    omega (arith, bytes-fit 8 (c .before .before .loop .k - 1) _ (omega arith) l)
+    let loop = c .before .before .loop in
+    let l = bytes-before 8 (c .far-byte .result) (loop .v) (loop .k) (omega arith) (omega arith) (c .far-byte .ensures .1) (loop .inv .1 .1) in
+    omega (arith, bytes-fit 8 (loop .k - 1) _ (omega arith) l)
 
 add-v : tie.Need-add-v Inv-loop μ-loop
 add-v c =
-    let l = bytes-before 8 (c .far-byte .result) (c .before .before .loop .v) (c .before .before .loop .k) (omega arith) (omega arith) (c .far-byte .ensures .1) (c .before .before .loop .inv .1 .1) in
-    omega (arith, bytes-fit 8 (c .before .before .loop .k - 1) _ (omega arith) l)
+    let loop = c .before .before .loop in
+    let l = bytes-before 8 (c .far-byte .result) (loop .v) (loop .k) (omega arith) (omega arith) (c .far-byte .ensures .1) (loop .inv .1 .1) in
+    omega (arith, bytes-fit 8 (loop .k - 1) _ (omega arith) l)
 
 loop-less : tie.Need-loop-less Inv-loop μ-loop
 loop-less c = search needs
 
 loop-again : tie.Need-loop-again Inv-loop μ-loop
 loop-again c =
-    let x = c .before .before .before .before .before .before .args in (
+    let loop = c .before .before .loop in
+    let start = c .before .before .before .before .before .before in
+    let x = start .args in (
       search needs,
       (
-        omega (arith, c .far-byte .ensures .0, c .before .before .loop .inv .1 .0, le-before 8 (textOf (x .sheet .now) (x .image .now) (x .run)) (c .before .before .before .source .result) (c .before .before .loop .k) (omega arith) (omega arith)),
-        bytes-before 8 (c .far-byte .result) (c .before .before .loop .v) (c .before .before .loop .k) (omega arith) (omega arith) (c .far-byte .ensures .1) (c .before .before .loop .inv .1 .1),
+        omega (arith, c .far-byte .ensures .0, loop .inv .1 .0, le-before 8 (textOf (x .sheet .now) (x .image .now) (x .run)) (c .before .before .before .source .result) (loop .k) (omega arith) (omega arith)),
+        bytes-before 8 (c .far-byte .result) (loop .v) (loop .k) (omega arith) (omega arith) (c .far-byte .ensures .1) (loop .inv .1 .1),
       ),
     )
 
 returns : tie.Need-returns Inv-loop μ-loop
 returns c =
+    let source = c .before .before .source in
     let x = c .before .before .before .before .before .args in
     let t = textOf (x .sheet .now) (x .image .now) (x .run) in
     let z : c .before .loop .k ≡ 0 = omega arith in
-    c .before .loop .inv .1 .0 ∙ ap (λ k. le (8 - k) t (c .before .before .source .result + k)) z ∙ ap (le 8 t) (add-zero _ ∙ c .before .before .source .ensures)
+    c .before .loop .inv .1 .0 ∙ ap (λ k. le (8 - k) t (source .result + k)) z ∙ ap (le 8 t) (add-zero _ ∙ source .ensures)
 
 pub far-word-spec : {M : Type 1} → statement M
 far-word-spec =

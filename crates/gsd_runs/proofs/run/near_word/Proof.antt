@@ -17,20 +17,26 @@ add-i : tie.Need-add-i
 add-i c = omega (arith, c .before .before .before .before .before .pre .1 .whole (omega arith))
 
 u64-at-requires : tie.Need-u64-at-requires
-u64-at-requires c κs = omega (arith, c .before .before .before .before .before .before .before .pre .1 .whole (omega arith), c .before .before .before .before .before .before .before .pre .0 .image (c .if2 .taken))
+u64-at-requires c κs =
+    let start = c .before .before .before .before .before .before .before in
+    omega (arith, start .pre .1 .whole (omega arith), start .pre .0 .image (c .if2 .taken))
 
 returns-2 : tie.Need-returns-2
 returns-2 c =
-    let x = c .before .before .before .before .before .before .before .before .args in
-    c .u64-at .ensures ∙ sym (word-whole (x .sheet .now) (x .image .now) (x .run) (x .w) (x .image .now) (text-image _ _ (x .run) (c .before .if2 .taken)) (omega arith) (c .before .before .before .before .before .before .before .before .pre .1 .whole (omega arith)))
+    let start = c .before .before .before .before .before .before .before .before in
+    let x = start .args in
+    c .u64-at .ensures ∙ sym (word-whole (x .sheet .now) (x .image .now) (x .run) (x .w) (x .image .now) (text-image _ _ (x .run) (c .before .if2 .taken)) (omega arith) (start .pre .1 .whole (omega arith)))
 
 u64-at-requires-2 : tie.Need-u64-at-requires-2
-u64-at-requires-2 c κs = omega (arith, c .before .before .before .before .before .before .before .pre .1 .whole (omega arith), c .before .before .before .before .before .before .before .pre .0 .sheet (omega arith))
+u64-at-requires-2 c κs =
+    let start = c .before .before .before .before .before .before .before in
+    omega (arith, start .pre .1 .whole (omega arith), start .pre .0 .sheet (omega arith))
 
 returns-3 : tie.Need-returns-3
 returns-3 c =
-    let x = c .before .before .before .before .before .before .before .before .args in
-    c .u64-at2 .ensures ∙ sym (word-whole (x .sheet .now) (x .image .now) (x .run) (x .w) (x .sheet .now) (text-sheet _ _ (x .run) (omega arith)) (omega arith) (c .before .before .before .before .before .before .before .before .pre .1 .whole (omega arith)))
+    let start = c .before .before .before .before .before .before .before .before in
+    let x = start .args in
+    c .u64-at2 .ensures ∙ sym (word-whole (x .sheet .now) (x .image .now) (x .run) (x .w) (x .sheet .now) (text-sheet _ _ (x .run) (omega arith)) (omega arith) (start .pre .1 .whole (omega arith)))
 
 pub near-word-spec : {M : Type 1} → statement M
 near-word-spec =

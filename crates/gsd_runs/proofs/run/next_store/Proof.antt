@@ -12,7 +12,9 @@ place-requires : tie.Need-place-requires
 place-requires c κs = search needs
 
 put-word-requires : tie.Need-put-word-requires
-put-word-requires c κs = omega (arith, c .place .ensures, place-within (c .before .before .before .before .before .before .args .run) (c .before .before .before .before .before .before .args .w) (c .before .before .before .before .before .before .pre .1 .0))
+put-word-requires c κs =
+    let start = c .before .before .before .before .before .before in
+    omega (arith, c .place .ensures, place-within (start .args .run) (start .args .w) (start .pre .1 .0))
 
 same-length : tie.Need-same-length
 same-length c = search needs

@@ -30,7 +30,8 @@ wide-requires-2 c κs = search needs
 
 returns-2 : tie.Need-returns-2
 returns-2 c =
-    let x = c .before .before .before .before .before .before .args in
+    let start = c .before .before .before .before .before .before in
+    let x = start .args in
     (c .wide2 .ensures .0 ∙ sym (over-inside (x .image .now) (x .sheet .now) (x .at) (x .from) (x .until) (search needs) (search needs) (x .i) (search needs) (search needs) (search needs)), search needs)
 
 shared-slice-read-wide-3 : tie.Need-shared-slice-read-wide-3
@@ -41,7 +42,8 @@ wide-requires-3 c κs = search needs
 
 returns-3 : tie.Need-returns-3
 returns-3 c =
-    let x = c .before .before .before .before .before .before .args in
+    let start = c .before .before .before .before .before .before in
+    let x = start .args in
     (c .wide3 .ensures .0 ∙ sym (over-above (x .image .now) (x .sheet .now) (x .at) (x .from) (x .until) (search needs) (search needs) (x .i) (search needs)), search needs)
 
 pub over-byte-spec : {M : Type 1} → statement M

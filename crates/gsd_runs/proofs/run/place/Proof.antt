@@ -18,7 +18,9 @@ add-result : tie.Need-add-result
 add-result c = search needs
 
 returns : tie.Need-returns
-returns c = sym (place-name (c .before .before .before .before .args .run) (c .before .before .before .before .args .w) (c .before .before .if1 .taken))
+returns c =
+    let start = c .before .before .before .before in
+    sym (place-name (start .args .run) (start .args .w) (c .before .before .if1 .taken))
 
 mul-result-2 : tie.Need-mul-result-2
 mul-result-2 c = search needs

@@ -35,7 +35,9 @@ loop-holds c =
     (search needs, (refl, ap (λ k. exec (x .sheet .now) (x .image .now) (stepsFrom (x .run) (x .w) k)) (add-sub-cancel-left (x .w) (x .n))))
 
 next-store-requires : tie.Need-next-store-requires Inv-loop μ-loop Inv-loop2 μ-loop2
-next-store-requires c κs = (rw (c .before .before .loop .inv .1 .0) (c .before .before .before .before .before .before .pre .0), (search needs, λ _. c .before .before .before .near-count .ensures .1 _ (c .before .loop-test .taken)))
+next-store-requires c κs =
+    let start = c .before .before .before .before .before .before in
+    (rw (c .before .before .loop .inv .1 .0) (start .pre .0), (search needs, λ _. c .before .before .before .near-count .ensures .1 _ (c .before .loop-test .taken)))
 
 add-i : tie.Need-add-i Inv-loop μ-loop Inv-loop2 μ-loop2
 add-i c = search needs
@@ -44,13 +46,18 @@ loop-less : tie.Need-loop-less Inv-loop μ-loop Inv-loop2 μ-loop2
 loop-less c = search needs
 
 loop-again : tie.Need-loop-again Inv-loop μ-loop Inv-loop2 μ-loop2
-loop-again c = (search needs, (c .before .before .next-store .kept .0 ∙ c .before .before .before .before .before .loop .inv .1 .0, rw (c .before .before .next-store .ensures) (sym (exec-next _ _ _ _ _ (omega arith)) ∙ c .before .before .before .before .before .loop .inv .1 .1)))
+loop-again c =
+    let next-store = c .before .before .next-store in
+    let loop = c .before .before .before .before .before .loop in
+    (search needs, (next-store .kept .0 ∙ loop .inv .1 .0, rw (next-store .ensures) (sym (exec-next _ _ _ _ _ (omega arith)) ∙ loop .inv .1 .1)))
 
 loop2-holds : tie.Need-loop2-holds Inv-loop μ-loop Inv-loop2 μ-loop2
 loop2-holds c = (search needs, (refl, refl))
 
 next-store-requires-2 : tie.Need-next-store-requires-2 Inv-loop μ-loop Inv-loop2 μ-loop2
-next-store-requires-2 c κs = (rw (c .before .before .loop2 .inv .1 .0, c .before .before .before .before .loop .inv .1 .0) (c .before .before .before .before .before .before .before .before .pre .0), (search needs, λ t. absurd (true≢false (sym t))))
+next-store-requires-2 c κs =
+    let start = c .before .before .before .before .before .before .before .before in
+    (rw (c .before .before .loop2 .inv .1 .0, c .before .before .before .before .loop .inv .1 .0) (start .pre .0), (search needs, λ t. absurd (true≢false (sym t))))
 
 add-i-2 : tie.Need-add-i-2 Inv-loop μ-loop Inv-loop2 μ-loop2
 add-i-2 c = search needs
@@ -59,7 +66,10 @@ loop2-less : tie.Need-loop2-less Inv-loop μ-loop Inv-loop2 μ-loop2
 loop2-less c = search needs
 
 loop2-again : tie.Need-loop2-again Inv-loop μ-loop Inv-loop2 μ-loop2
-loop2-again c = (search needs, (c .before .before .next-store2 .kept .0 ∙ c .before .before .before .before .before .loop2 .inv .1 .0, rw (c .before .before .next-store2 .ensures) (sym (exec-next _ _ _ _ _ (omega arith)) ∙ c .before .before .before .before .before .loop2 .inv .1 .1)))
+loop2-again c =
+    let next-store2 = c .before .before .next-store2 in
+    let loop2 = c .before .before .before .before .before .loop2 in
+    (search needs, (next-store2 .kept .0 ∙ loop2 .inv .1 .0, rw (next-store2 .ensures) (sym (exec-next _ _ _ _ _ (omega arith)) ∙ loop2 .inv .1 .1)))
 
 same-length : tie.Need-same-length Inv-loop μ-loop Inv-loop2 μ-loop2
 same-length c = search needs

@@ -18,7 +18,9 @@ far-word-requires : tie.Need-far-word-requires
 far-word-requires c κs = search needs
 
 returns-3 : tie.Need-returns-3
-returns-3 c = let x = c .before .before .before .before .before .before .args in c .far-word .ensures ∙ sym (word-read (x .sheet .now) (x .image .now) (x .run) (x .w) (c .before .if2 .left))
+returns-3 c =
+    let start = c .before .before .before .before .before .before in
+    let x = start .args in c .far-word .ensures ∙ sym (word-read (x .sheet .now) (x .image .now) (x .run) (x .w) (c .before .if2 .left))
 
 pub word-at-spec : {M : Type 1} → statement M
 word-at-spec =

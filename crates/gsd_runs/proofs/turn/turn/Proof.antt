@@ -27,44 +27,69 @@ loop-holds : tie.Need-loop-holds Inv-loop μ-loop
 loop-holds c = turning-none _ _ _ _ _ _ (c .before .before .pre .1)
 
 run-at-requires : tie.Need-run-at-requires Inv-loop μ-loop
-run-at-requires c κs = (search needs, (search needs, (c .before .before .before .before .before .before .before .before .before .before .before .loop-test .taken, good-half _ _ _ _ (search needs) (search needs) (c .before .before .before .before .before .before .before .before .before .before .before .before .before .before .before .pre .0) (c .before .before .before .before .before .before .before .before .before .before .before .loop-test .taken))))
+run-at-requires c κs =
+    let loop-test = c .before .before .before .before .before .before .before .before .before .before .before .loop-test in
+    let start = c .before .before .before .before .before .before .before .before .before .before .before .before .before .before .before in
+    (search needs, (search needs, (loop-test .taken, good-half _ _ _ _ (search needs) (search needs) (start .pre .0) (loop-test .taken))))
 
 some-stores-requires : tie.Need-some-stores-requires Inv-loop μ-loop
 some-stores-requires c κs =
-    let inside = runs-inside _ _ (c .before .before .before .before .before .before .before .before .before .before .before .before .before .loop-test .taken) in
-    (run-good _ _ _ _ _ _ _ _ _ _ (c .before .before .before .before .before .before .before .before .before .before .before .before .before .before .loop .inv) _ (c .before .run-at .ensures) inside _ (c .before .before .before .before .before .before .before .before .before .before .before .before .before .before .before .before .before .pre .0), run-word _ _ _ _ _ _ _ _ _ _ (c .before .before .before .before .before .before .before .before .before .before .before .before .before .before .loop .inv) _ (c .before .run-at .ensures) inside)
+    let loop-test = c .before .before .before .before .before .before .before .before .before .before .before .before .before .loop-test in
+    let loop-told = c .before .before .before .before .before .before .before .before .before .before .before .before .before .before .loop in
+    let start = c .before .before .before .before .before .before .before .before .before .before .before .before .before .before .before .before .before in
+    let inside = runs-inside _ _ (loop-test .taken) in
+    (run-good _ _ _ _ _ _ _ _ _ _ (loop-told .inv) _ (c .before .run-at .ensures) inside _ (start .pre .0), run-word _ _ _ _ _ _ _ _ _ _ (loop-told .inv) _ (c .before .run-at .ensures) inside)
 
 add-w : tie.Need-add-w Inv-loop μ-loop
 add-w c =
-    let inside = runs-inside _ _ (c .before .before .before .before .before .before .before .before .before .before .before .before .before .before .before .before .loop-test .taken) in
-    let good = run-good _ _ _ _ _ _ _ _ _ _ (c .before .before .before .before .before .before .before .before .before .before .before .before .before .before .before .before .before .loop .inv) _ (c .before .before .before .before .run-at .ensures) inside _ (c .before .before .before .before .before .before .before .before .before .before .before .before .before .before .before .before .before .before .before .before .pre .0) in
-    omega (arith, c .before .before .some-stores .ensures .0, good .room, run-word _ _ _ _ _ _ _ _ _ _ (c .before .before .before .before .before .before .before .before .before .before .before .before .before .before .before .before .before .loop .inv) _ (c .before .before .before .before .run-at .ensures) inside)
+    let run-at = c .before .before .before .before .run-at in
+    let loop-test = c .before .before .before .before .before .before .before .before .before .before .before .before .before .before .before .before .loop-test in
+    let loop-told = c .before .before .before .before .before .before .before .before .before .before .before .before .before .before .before .before .before .loop in
+    let start = c .before .before .before .before .before .before .before .before .before .before .before .before .before .before .before .before .before .before .before .before in
+    let inside = runs-inside _ _ (loop-test .taken) in
+    let good = run-good _ _ _ _ _ _ _ _ _ _ (loop-told .inv) _ (run-at .ensures) inside _ (start .pre .0) in
+    omega (arith, c .before .before .some-stores .ensures .0, good .room, run-word _ _ _ _ _ _ _ _ _ _ (loop-told .inv) _ (run-at .ensures) inside)
 
 sub-left : tie.Need-sub-left Inv-loop μ-loop
 sub-left c = omega (arith, c .before .before .some-stores .ensures .0)
 
 sub-t35 : tie.Need-sub-t35 Inv-loop μ-loop
-sub-t35 c = omega (arith, c .before .before .before .before .before .before .before .before .before .before .before .before .before .before .before .before .before .before .before .loop .inv .free)
+sub-t35 c =
+    let loop-told = c .before .before .before .before .before .before .before .before .before .before .before .before .before .before .before .before .before .before .before .loop in
+    omega (arith, loop-told .inv .free)
 
 same-length : tie.Need-same-length Inv-loop μ-loop
-same-length c = c .before .before .before .before .some-stores .kept .0 ∙ c .before .before .before .before .before .before .before .before .before .before .before .before .before .before .before .before .before .before .before .loop .inv .long
+same-length c =
+    let loop-told = c .before .before .before .before .before .before .before .before .before .before .before .before .before .before .before .before .before .before .before .loop in
+    c .before .before .before .before .some-stores .kept .0 ∙ loop-told .inv .long
 
 returns : tie.Need-returns Inv-loop μ-loop
 returns c =
-    let made = run-made _ _ _ _ _ _ _ _ _ _ (c .before .before .before .before .before .before .before .before .before .before .before .before .before .before .before .before .before .before .before .loop .inv) _ (c .before .before .before .before .before .before .run-at .ensures) (runs-inside _ _ (c .before .before .before .before .before .before .before .before .before .before .before .before .before .before .before .before .before .before .loop-test .taken)) _ (c .before .before .before .before .some-stores .ensures .0) in
-    rw (c .before .before .before .before .some-stores .ensures .1) (turn-stop _ _ _ _ _ _ _ _ _ _ made (omega (arith, c .before .before .before .before .some-stores .ensures .0, c .if1 .taken)))
+    let some-stores = c .before .before .before .before .some-stores in
+    let run-at = c .before .before .before .before .before .before .run-at in
+    let loop-test = c .before .before .before .before .before .before .before .before .before .before .before .before .before .before .before .before .before .before .loop-test in
+    let loop-told = c .before .before .before .before .before .before .before .before .before .before .before .before .before .before .before .before .before .before .before .loop in
+    let made = run-made _ _ _ _ _ _ _ _ _ _ (loop-told .inv) _ (run-at .ensures) (runs-inside _ _ (loop-test .taken)) _ (some-stores .ensures .0) in
+    rw (some-stores .ensures .1) (turn-stop _ _ _ _ _ _ _ _ _ _ made (omega (arith, some-stores .ensures .0, c .if1 .taken)))
 
 add-r : tie.Need-add-r Inv-loop μ-loop
-add-r c = omega (arith, c .before .before .before .before .before .before .before .before .before .before .before .before .before .before .before .before .before .before .loop-test .taken, c .before .before .before .before .before .before .before .before .before .before .before .before .before .before .before .before .before .before .before .before .before .before .pre .0 .rows, c .before .before .before .before .before .before .before .before .before .before .before .before .before .before .before .before .before .before .before .before .before .before .pre .0 .fresh)
+add-r c =
+    let loop-test = c .before .before .before .before .before .before .before .before .before .before .before .before .before .before .before .before .before .before .loop-test in
+    let start = c .before .before .before .before .before .before .before .before .before .before .before .before .before .before .before .before .before .before .before .before .before .before in
+    omega (arith, loop-test .taken, start .pre .0 .rows, start .pre .0 .fresh)
 
 loop-less : tie.Need-loop-less Inv-loop μ-loop
 loop-less c = search needs
 
 loop-again : tie.Need-loop-again Inv-loop μ-loop
 loop-again c =
-    let inside = runs-inside _ _ (c .before .before .before .before .before .before .before .before .before .before .before .before .before .before .before .before .before .before .loop-test .taken) in
-    let made = run-made _ _ _ _ _ _ _ _ _ _ (c .before .before .before .before .before .before .before .before .before .before .before .before .before .before .before .before .before .before .before .loop .inv) _ (c .before .before .before .before .before .before .run-at .ensures) inside _ (c .before .before .before .before .some-stores .ensures .0) in
-    rw (c .before .before .before .before .some-stores .ensures .1) (run-over _ _ _ _ _ _ _ _ _ _ made _ (c .before .before .before .before .before .before .run-at .ensures) inside (c .if1 .left))
+    let some-stores = c .before .before .before .before .some-stores in
+    let run-at = c .before .before .before .before .before .before .run-at in
+    let loop-test = c .before .before .before .before .before .before .before .before .before .before .before .before .before .before .before .before .before .before .loop-test in
+    let loop-told = c .before .before .before .before .before .before .before .before .before .before .before .before .before .before .before .before .before .before .before .loop in
+    let inside = runs-inside _ _ (loop-test .taken) in
+    let made = run-made _ _ _ _ _ _ _ _ _ _ (loop-told .inv) _ (run-at .ensures) inside _ (some-stores .ensures .0) in
+    rw (some-stores .ensures .1) (run-over _ _ _ _ _ _ _ _ _ _ made _ (run-at .ensures) inside (c .if1 .left))
 
 sub-t36 : tie.Need-sub-t36 Inv-loop μ-loop
 sub-t36 c = search needs

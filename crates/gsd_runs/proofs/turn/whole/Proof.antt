@@ -27,17 +27,23 @@ loop-holds : tie.Need-loop-holds Inv-loop μ-loop
 loop-holds c = (search needs, sym (counted-none (c .args .t1)))
 
 run-at-requires : tie.Need-run-at-requires Inv-loop μ-loop
-run-at-requires c κs = (search needs, (search needs, (omega arith, good-half _ _ _ _ (omega arith) (omega arith) (c .before .before .before .before .before .before .before .before .before .before .before .before .before .pre) (omega arith))))
+run-at-requires c κs =
+    let start = c .before .before .before .before .before .before .before .before .before .before .before .before .before in
+    (search needs, (search needs, (omega arith, good-half _ _ _ _ (omega arith) (omega arith) (start .pre) (omega arith))))
 
 add-sum : tie.Need-add-sum Inv-loop μ-loop
 add-sum c =
     let p = c .before .before .before .before .before .before .before .before .before .before .before .before .before .before .args .t1 in
     let r = c .before .before .before .before .before .before .before .before .before .before .before .before .before .loop .r in
+    let counted = c .before .before .before .before .before .before .before .before .before .before .before .before .before .loop .inv .1 in
     let more = counted-more p r (c .run-at .result) (c .run-at .ensures) (runs-inside p r (omega arith)) in
-    omega (arith, c .before .before .before .before .before .before .before .before .before .before .before .before .before .loop .inv .1, more, counted-within p (r + 1) (omega arith), c .before .before .before .before .before .before .before .before .before .before .before .before .before .before .pre .count)
+    omega (arith, counted, more, counted-within p (r + 1) (omega arith), c .before .before .before .before .before .before .before .before .before .before .before .before .before .before .pre .count)
 
 add-r : tie.Need-add-r Inv-loop μ-loop
-add-r c = omega (arith, c .before .before .before .before .before .before .before .before .before .before .before .before .loop-test .taken, c .before .before .before .before .before .before .before .before .before .before .before .before .before .before .pre .rows, c .before .before .before .before .before .before .before .before .before .before .before .before .before .before .pre .fresh)
+add-r c =
+    let loop-test = c .before .before .before .before .before .before .before .before .before .before .before .before .loop-test in
+    let start = c .before .before .before .before .before .before .before .before .before .before .before .before .before .before in
+    omega (arith, loop-test .taken, start .pre .rows, start .pre .fresh)
 
 loop-less : tie.Need-loop-less Inv-loop μ-loop
 loop-less c = search needs
@@ -46,8 +52,9 @@ loop-again : tie.Need-loop-again Inv-loop μ-loop
 loop-again c =
     let p = c .before .before .before .before .before .before .before .before .before .before .before .before .before .before .args .t1 in
     let r = c .before .before .before .before .before .before .before .before .before .before .before .before .before .loop .r in
+    let counted = c .before .before .before .before .before .before .before .before .before .before .before .before .before .loop .inv .1 in
     let more = counted-more p r (c .run-at .result) (c .run-at .ensures) (runs-inside p r (omega arith)) in
-    (search needs, omega (arith, c .before .before .before .before .before .before .before .before .before .before .before .before .before .loop .inv .1, more))
+    (search needs, omega (arith, counted, more))
 
 returns : tie.Need-returns Inv-loop μ-loop
 returns c =
