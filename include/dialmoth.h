@@ -9,7 +9,7 @@
  *
  * The archive is for x86-64 (System V), for C and C++, and takes memcpy and
  * memset from the C library, nothing else. Beside what these two use, the stack
- * needs at most 22 KiB for a reading call, 34 KiB for append, 1 KiB for create.
+ * needs at most 5 KiB for a reading call, 31 KiB for append, 1 KiB for create.
  *
  * Every call answers a number: 0, or the number of the refusal:
  *
