@@ -34,10 +34,10 @@ use Rattle.gsd_stores.proofs.Sheet.{Accepted, accepted, rowFrom, rowAt, nameAt,
 use Rattle.gsd_stores.proofs.Rows.{bodyOffset, offset-last, new-names, new-few, all-has}
 use Rattle.gsd_stores.proofs.Plan.{Planned, end-of-use, namesAfter, rowEntry, entries-count, positions, grown-enough, doubled-range}
 use Rattle.gsd_stores.proofs.Plan.{planned as plan-is}
-use Rattle.gsd_read.specs.declared.survey.Survey.{Survey}
-use Rattle.gsd_read.specs.NameLists.{namesIn}
-use Rattle.gsd_read.specs.Surveys.{Surveyed}
-use Rattle.gsd_read.proofs.Surveys.{kept-names, many-names as survey-many}
+use Rattle.gsd_open.specs.declared.survey.Survey.{Survey}
+use Rattle.gsd_open.specs.NameLists.{namesIn}
+use Rattle.gsd_open.specs.Surveys.{Surveyed}
+use Rattle.gsd_open.proofs.Surveys.{kept-names, many-names as survey-many}
 use Rattle.gsd_runs.specs.declared.plan.Plan.{Plan}
 use Rattle.gsd_parts.specs.declared.sites.Sites.{Sites}
 use Rattle.gsd_parts.specs.declared.fill.BodyPlaces.{BodyPlaces}

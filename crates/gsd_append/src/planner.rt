@@ -1,5 +1,6 @@
 // The plan of an append: everything is tested and every place and number found before the first store.
 use gsd_format::Layout;
+use gsd_open::survey_of;
 use gsd_parts::fill::BodyPlaces;
 use gsd_parts::fill::fill_entries;
 use gsd_parts::fill::place_bodies;
@@ -11,7 +12,6 @@ use gsd_parts::sites::Sites;
 use gsd_parts::sites::end_of_use;
 use gsd_parts::sites::find_sites;
 use gsd_parts::sites::heads_for;
-use gsd_read::survey_of;
 use gsd_runs::Plan;
 use gsd_sheet::sheet_rows;
 ghost use mathlib.Core.Path.{_≡_};
@@ -25,7 +25,7 @@ ghost use Rattle.gsd_stores.specs.View.{viewOf};
 ghost use Rattle.gsd_stores.specs.Sheet.{rowCount, sheetTest};
 ghost use Rattle.gsd_stores.specs.Plan.{finalPosition};
 ghost use Rattle.gsd_stores.specs.Append.{planTest, appendTest};
-ghost use Rattle.gsd_read.specs.NameLists.{namesIn, Spans};
+ghost use Rattle.gsd_open.specs.NameLists.{namesIn, Spans};
 ghost use Rattle.gsd_sheet.specs.Rows.{Located};
 ghost use Rattle.gsd_append.specs.Planning.{planned, Sees, Asked, Joinable, Joined, Plans};
 

@@ -52,7 +52,7 @@ fn few(count: u64) -> u64
 
 fn blocks_end(image: &[u8]) -> u64 {
     let mut starts = [0u32; 1025];
-    let s = gsd_read::survey_of(image, &mut starts);
+    let s = gsd_open::survey_of(image, &mut starts);
     let l = s.layout;
     greater(
         std::num::wrapping_add_u64(l.index, 32 * few(l.slots)),

@@ -1,7 +1,7 @@
 // The listing as one text: what is printed for an input. The image is opened once.
 use gsd_bytes::put_text;
-use gsd_read::slot;
-use gsd_read::survey_of;
+use gsd_open::entry_at;
+use gsd_open::survey_of;
 use gsd_text::Line;
 use gsd_text::counts_line;
 use gsd_text::entry_line;
@@ -35,7 +35,8 @@ fn put_entries(image: &[u8], index: u64, count: u64, out: &mut [u8], at: usize) 
     let mut to = at;
     let mut i = 0;
     while i < count {
-        to = put_line(out, to, entry_line(slot(image, index, i)));
+        let e = entry_at(image, (index + 32 * i) as usize);
+        to = put_line(out, to, entry_line(e));
         i += 1;
     }
     to

@@ -17,8 +17,8 @@ use Rattle.gsd_stores.specs.Plan.{newNames}
 use Rattle.gsd_stores.specs.Demand3.{noRow}
 use Rattle.gsd_stores.proofs.Sheet.{rows-count}
 use Rattle.gsd_stores.proofs.Rows.{new-listed, new-unlisted, new-next, new-id, new-is, nothing}
-use Rattle.gsd_read.specs.NameLists.{namesIn}
-use Rattle.gsd_read.proofs.NameLists.{names-all, names-long}
+use Rattle.gsd_open.specs.NameLists.{namesIn}
+use Rattle.gsd_open.proofs.NameLists.{names-all, names-long}
 use Rattle.gsd_sheet.specs.Rows.{sheetNames, nameOf, Filled, Located}
 use Rattle.gsd_parts.specs.Order.{paired}
 use Rattle.gsd_parts.specs.RowIds.{pairOf, RowNamed, IdsFound}

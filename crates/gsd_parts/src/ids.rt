@@ -1,5 +1,5 @@
 // The ids of the rows' names: a listed name has its place in the list, the new ones follow in the order of rows.
-use gsd_read::name_id;
+use gsd_open::name_id;
 ghost use mathlib.Core.Path.{_≡_};
 ghost use Prim.Native.Nat.{_+_, _-_, _≤_, _<_};
 ghost use lib.ListN.{length};
@@ -8,7 +8,7 @@ ghost use Rattle.gsd_format.specs.Names.{indexOf};
 ghost use Rattle.gsd_format.specs.Opening.{mostNames};
 ghost use Rattle.gsd_format.proofs.Ids.{Distinct};
 ghost use Rattle.gsd_stores.specs.Sheet.{rowCount, rowsOf};
-ghost use Rattle.gsd_read.specs.NameLists.{namesIn, Spans};
+ghost use Rattle.gsd_open.specs.NameLists.{namesIn, Spans};
 ghost use Rattle.gsd_sheet.specs.Rows.{sheetNames, Located};
 ghost use Rattle.gsd_parts.specs.Order.{paired};
 ghost use Rattle.gsd_parts.specs.RowIds.{IdsFound};

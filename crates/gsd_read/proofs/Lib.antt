@@ -1,9 +1,5 @@
 -- Laws that the proofs of reading share.
-pub mod Blocks
-pub mod EntryTests
-pub mod NameLists
 pub mod Floats
 pub mod Signed
-pub mod Surveys
+pub mod Answers
 pub mod Lookups
-pub mod Slots

@@ -28,9 +28,9 @@ use Rattle.gsd_format.proofs.Names.{Lies, parts-lie}
 use Rattle.gsd_format.proofs.Verdict.{Sound, verdict-zero}
 use Rattle.gsd_format.proofs.Lookup.{find-end, find-sound, look-found, opened-lookup, opened-name, opened-no-name, refused-name, found-opens}
 use Rattle.gsd_format.proofs.Elements.{element-at}
-use Rattle.gsd_read.specs.Index.{Capped}
+use Rattle.gsd_open.specs.Index.{Capped}
+use Rattle.gsd_open.proofs.Surveys.{layout-length, slot-entry}
 use Rattle.gsd_read.specs.Lookups.{Inside, Held}
-use Rattle.gsd_read.proofs.Surveys.{layout-length, slot-entry}
 
 -- The search for an entry
 

@@ -1,6 +1,2 @@
--- What the functions of reading answer on the way to the calls' answers.
-pub mod Index
-pub mod NameLists
-pub mod Surveys
+-- What the functions of reading go by on the way to the calls' answers.
 pub mod Lookups
-pub mod Slots

@@ -1,15 +1,15 @@
 // What is found in an image: its counts, the n-th entry and name, the entry of a frame and a name, and its chunk.
-use crate::ids::name_id;
-use crate::index::chunk_bytes;
-use crate::index::entry_at;
-use crate::names::name_part;
-use crate::survey::survey_in;
 use gsd_format::Counts;
 use gsd_format::Entry;
 use gsd_format::Listed;
 use gsd_format::Opening;
 use gsd_format::Part;
 use gsd_format::Place;
+use gsd_open::chunk_bytes;
+use gsd_open::entry_at;
+use gsd_open::name_id;
+use gsd_open::name_part;
+use gsd_open::survey_of;
 ghost use mathlib.Core.Path.{_≡_};
 ghost use mathlib.Core.Bool.{_&&_};
 ghost use lib.ListN.{length};
@@ -24,7 +24,7 @@ pub fn open(image: &[u8]) -> Opening
     ensures { λ r. ⌜ r ≡ opening (now (image .entry)) ⌝ }
 {
     let mut starts = [0u32; 1025];
-    let s = survey_in(image, &mut starts);
+    let s = survey_of(image, &mut starts);
     if s.number != 0 {
         return Opening::Refused(s.number);
     }
@@ -39,7 +39,7 @@ pub fn entry(image: &[u8], n: u64) -> Listed
     ensures { λ r. ⌜ r ≡ nthEntry (now (image .entry)) n ⌝ }
 {
     let mut starts = [0u32; 1025];
-    let s = survey_in(image, &mut starts);
+    let s = survey_of(image, &mut starts);
     if s.number != 0 {
         return Listed::Refused(s.number);
     }
@@ -53,7 +53,7 @@ pub fn name(image: &[u8], n: u64) -> Place
     ensures { λ r. ⌜ r ≡ nthName (now (image .entry)) n ⌝ }
 {
     let mut starts = [0u32; 1025];
-    let s = survey_in(image, &mut starts);
+    let s = survey_of(image, &mut starts);
     if s.number != 0 {
         return Place::Refused(s.number);
     }
@@ -116,7 +116,7 @@ pub fn lookup(image: &[u8], frame: u64, name: &[u8]) -> Listed
     ensures { λ r. ⌜ r ≡ lookup (now (image .entry)) frame (now (name .entry)) ⌝ }
 {
     let mut starts = [0u32; 1025];
-    let s = survey_in(image, &mut starts);
+    let s = survey_of(image, &mut starts);
     if s.number != 0 {
         return Listed::Refused(s.number);
     }

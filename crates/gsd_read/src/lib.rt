@@ -1,13 +1,7 @@
-// Reading an image: what opening, the names, the entries, the lookup, chunks and elements answer.
+// Reading an image: what opening, the names, the entries, the lookup, chunks and elements answer. Every call opens the
+// image.
 mod elements;
 mod found;
-mod header;
-mod ids;
-mod index;
-mod names;
-mod refusal;
-mod stretch;
-mod survey;
 
 pub use elements::element;
 pub use found::chunk;
@@ -17,8 +11,3 @@ pub use found::lookup;
 pub use found::name;
 pub use found::name_bytes;
 pub use found::open;
-pub use ids::name_id;
-pub use index::slot;
-pub use names::NameList;
-pub use survey::Survey;
-pub use survey::survey_of;

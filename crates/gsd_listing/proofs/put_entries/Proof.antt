@@ -8,7 +8,7 @@ use borrow.Author.Needs.{needs}
 use Rattle.gsd_format.specs.Entries.{entriesOf}
 use Rattle.gsd_format.specs.Listing.{entryLine, entryLines}
 use Rattle.gsd_format.proofs.Listing.{lines-put, lines-last}
-use Rattle.gsd_read.proofs.Slots.{slot-listed}
+use Rattle.gsd_open.proofs.Surveys.{slot-within, slot-entry}
 use Rattle.gsd_listing.proofs.put_entries.Statement.{statement}
 use Rattle.gsd_listing.proofs.put_entries.Tie as tie
 
@@ -22,8 +22,20 @@ abbrev μ-loop : tie.MeasureT-loop
 loop-holds : tie.Need-loop-holds Inv-loop μ-loop
 loop-holds c = (search needs, search needs, search needs, refl)
 
-slot-requires : tie.Need-slot-requires Inv-loop μ-loop
-slot-requires c κs = tt
+mul-entry-at : tie.Need-mul-entry-at Inv-loop μ-loop
+mul-entry-at c =
+    let good = c .before .before .before .before .pre .0 in
+    omega (arith, good .1, slot-within _ (good .0) (c .before .loop .i) (omega (arith, good .2)))
+
+add-entry-at : tie.Need-add-entry-at Inv-loop μ-loop
+add-entry-at c =
+    let good = c .before .before .before .before .pre .0 in
+    omega (arith, good .1, slot-within _ (good .0) (c .before .loop .i) (omega (arith, good .2)))
+
+entry-at-requires : tie.Need-entry-at-requires Inv-loop μ-loop
+entry-at-requires c κs =
+    let good = c .before .before .before .before .pre .0 in
+    omega (arith, good .1, slot-within _ (good .0) (c .before .loop .i) (omega (arith, good .2)))
 
 entry-line-requires : tie.Need-entry-line-requires Inv-loop μ-loop
 entry-line-requires c κs = tt
@@ -49,7 +61,7 @@ loop-again c =
     let few : l .i < length es = omega (arith, s .pre .0 .2) in
     let made = c .before .before .before .entry-line in
     let text = take (made .result .size) (made .result .bytes) in
-    let entry = c .before .before .before .before .slot .ensures ∙ slot-listed img (s .pre .0 .0) (s .args .index) (s .pre .0 .1) (l .i) few in
+    let entry = c .before .before .before .before .before .entry-at .ensures ∙ slot-entry img (s .pre .0 .0) (l .i) few _ (omega (arith, s .pre .0 .1)) in
     let line = made .ensures .1 ∙ ap entryLine entry in (
       search needs,
       p .kept .0 ∙ l .inv .1,
@@ -74,7 +86,9 @@ put-entries-spec =
     Inv-loop
     μ-loop
     loop-holds
-    slot-requires
+    mul-entry-at
+    add-entry-at
+    entry-at-requires
     entry-line-requires
     put-line-requires
     add-i

@@ -7,8 +7,7 @@ use Rattle.gsd_format.specs.Ascii.{ascii}
 use Rattle.gsd_format.specs.Entries.{entriesOf}
 use Rattle.gsd_format.specs.Listing.{fields, entryLines, countsLine, listing}
 use Rattle.gsd_format.proofs.Listing.{listing-open, listing-refused}
-use Rattle.gsd_read.proofs.Surveys.{passed-on, opens, index-there, many-names}
-use Rattle.gsd_read.proofs.Slots.{entries-within}
+use Rattle.gsd_open.proofs.Surveys.{passed-on, opens, index-there, many-names, entries-within}
 use Rattle.gsd_listing.proofs.put_listing.Statement.{statement}
 use Rattle.gsd_listing.proofs.put_listing.Tie as tie
 

@@ -1,7 +1,7 @@
 -- `gsd_append::planner::plan_append` meets its contract: the first number that applies, or the plan of the rows.
 use mathlib.Core.Path.{sym, _∙_}
 use borrow.Author.Needs.{needs}
-use Rattle.gsd_read.proofs.Surveys.{spans, few-names as survey-few}
+use Rattle.gsd_open.proofs.Surveys.{spans, few-names as survey-few}
 use Rattle.gsd_append.proofs.PlanMatch.{not-opened, odd-index, odd-names, bad-sheet, good-sheet, sees, listed-many, listed-are, plans-refused, plans-same}
 use Rattle.gsd_append.proofs.planner.plan_append.Statement.{statement}
 use Rattle.gsd_append.proofs.planner.plan_append.Tie as tie

@@ -1,7 +1,6 @@
 -- `gsd_parts::ids::id_of` meets its contract.
 use mathlib.Core.Path.{_∙_}
 use borrow.Author.Needs.{needs}
-use Rattle.gsd_read.proofs.NameLists.{id-listed}
 use Rattle.gsd_parts.proofs.ids.id_of.Statement.{statement}
 use Rattle.gsd_parts.proofs.ids.id_of.Tie as tie
 
@@ -15,10 +14,10 @@ part-name-id-end : tie.Need-part-name-id-end
 part-name-id-end c = search needs
 
 name-id-requires : tie.Need-name-id-requires
-name-id-requires c κs = search needs
+name-id-requires c κs = c .before .before .before .pre .0
 
 returns : tie.Need-returns
-returns c = c .name-id .ensures ∙ id-listed _ _ _ _ (c .before .before .before .before .pre .0)
+returns c = c .name-id .ensures
 
 pub id-of-spec : {M : Type 1} → statement M
 id-of-spec =

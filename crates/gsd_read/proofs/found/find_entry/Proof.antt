@@ -6,7 +6,7 @@ use lib.ListN.{drop}
 use borrow.Author.Needs.{needs}
 use Rattle.gsd_format.specs.Entries.{entriesOf}
 use Rattle.gsd_format.specs.Lookup.{findEntry}
-use Rattle.gsd_read.proofs.Surveys.{slot-within}
+use Rattle.gsd_open.proofs.Surveys.{slot-within}
 use Rattle.gsd_read.proofs.Lookups.{found-here, found-on, found-none}
 use Rattle.gsd_read.proofs.found.find_entry.Statement.{statement}
 use Rattle.gsd_read.proofs.found.find_entry.Tie as tie

@@ -3,32 +3,35 @@ use mathlib.Core.Path.{sym, _∙_}
 use borrow.Author.Needs.{needs}
 use Rattle.gsd_format.specs.declared.Listed.{Listed}
 use Rattle.gsd_format.proofs.Lookup.{refused-lookup}
-use Rattle.gsd_read.proofs.Surveys.{passed-on, opens, index-there, no-frame, not-listed, look-on}
+use Rattle.gsd_open.proofs.Surveys.{passed-on, opens, spans, index-there}
+use Rattle.gsd_read.proofs.Answers.{no-frame, not-listed, look-on}
 use Rattle.gsd_read.proofs.found.lookup.Statement.{statement}
 use Rattle.gsd_read.proofs.found.lookup.Tie as tie
 
-survey-in-requires : tie.Need-survey-in-requires
-survey-in-requires c κs = search needs
+survey-of-requires : tie.Need-survey-of-requires
+survey-of-requires c κs = search needs
 
 returns : tie.Need-returns
-returns c = passed-on _ Listed.Refused _ (λ k r. refused-lookup _ k r _ _) _ (c .before .before .survey-in .ensures .number) (c .if1 .taken)
+returns c = passed-on _ Listed.Refused _ (λ k r. refused-lookup _ k r _ _) _ (c .before .before .survey-of .ensures .number) (c .if1 .taken)
 
 returns-2 : tie.Need-returns-2
-returns-2 c = sym (no-frame _ _ _ (c .before .before .before .before .survey-in .ensures) (c .before .before .if1 .left) _ _ (c .if2 .taken))
+returns-2 c = sym (no-frame _ _ _ (c .before .before .before .before .survey-of .ensures) (c .before .before .if1 .left) _ _ (c .if2 .taken))
 
 name-id-requires : tie.Need-name-id-requires
-name-id-requires c κs = search needs
+name-id-requires c κs =
+    let good = c .before .before .before in
+    spans _ _ _ (good .before .before .survey-of .ensures) (good .if1 .left)
 
 returns-3 : tie.Need-returns-3
 returns-3 c =
     let there = c .before .before .before in
     let good = there .before .before in
-    sym (not-listed _ _ _ (good .before .before .survey-in .ensures) (good .if1 .left) _ _ _ (c .before .name-id .ensures) (there .if2 .left) (c .if3 .taken))
+    sym (not-listed _ _ _ (good .before .before .survey-of .ensures) (good .if1 .left) _ _ _ (c .before .name-id .ensures) (there .if2 .left) (c .if3 .taken))
 
 find-entry-requires : tie.Need-find-entry-requires
 find-entry-requires c κs =
     let good = c .before .before .before .before .before in
-    let told = good .before .before .survey-in .ensures in
+    let told = good .before .before .survey-of .ensures in
     (opens _ _ _ told (good .if1 .left), index-there _ _ _ told (good .if1 .left), told .entries (good .if1 .left))
 
 returns-4 : tie.Need-returns-4
@@ -36,14 +39,14 @@ returns-4 c =
     let named = c .before .before in
     let there = named .before .before in
     let good = there .before .before in
-    let told = good .before .before .survey-in .ensures in
+    let told = good .before .before .survey-of .ensures in
     c .find-entry .ensures ∙ sym (look-on _ _ _ told (good .if1 .left) _ _ _ (named .name-id .ensures) (there .if2 .left) (c .before .if3 .left))
 
 pub lookup-spec : {M : Type 1} → statement M
 lookup-spec =
     tie.close
     (tie.spec
-    survey-in-requires
+    survey-of-requires
     returns
     returns-2
     name-id-requires

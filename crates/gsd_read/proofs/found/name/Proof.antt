@@ -3,29 +3,30 @@ use mathlib.Core.Path.{sym, _∙_, ap}
 use borrow.Author.Needs.{needs}
 use Rattle.gsd_format.specs.declared.Place.{Place}
 use Rattle.gsd_format.proofs.Lookup.{refused-name}
-use Rattle.gsd_read.proofs.Surveys.{passed-on, spans, name-there, no-name}
+use Rattle.gsd_open.proofs.Surveys.{passed-on, spans}
+use Rattle.gsd_read.proofs.Answers.{name-there, no-name}
 use Rattle.gsd_read.proofs.found.name.Statement.{statement}
 use Rattle.gsd_read.proofs.found.name.Tie as tie
 
-survey-in-requires : tie.Need-survey-in-requires
-survey-in-requires c κs = search needs
+survey-of-requires : tie.Need-survey-of-requires
+survey-of-requires c κs = search needs
 
 returns : tie.Need-returns
-returns c = passed-on _ Place.Refused _ (λ k r. refused-name _ k r _) _ (c .before .before .survey-in .ensures .number) (c .if1 .taken)
+returns c = passed-on _ Place.Refused _ (λ k r. refused-name _ k r _) _ (c .before .before .survey-of .ensures .number) (c .if1 .taken)
 
 returns-2 : tie.Need-returns-2
-returns-2 c = sym (no-name _ _ _ (c .before .before .before .survey-in .ensures) (c .before .if1 .left) _ (c .if2 .taken))
+returns-2 c = sym (no-name _ _ _ (c .before .before .before .survey-of .ensures) (c .before .if1 .left) _ (c .if2 .taken))
 
 name-part-requires : tie.Need-name-part-requires
 name-part-requires c κs =
     let good = c .before .before in
-    let span = spans _ _ _ (good .before .before .survey-in .ensures) (good .if1 .left) _ (c .before .if2 .left) in
+    let span = spans _ _ _ (good .before .before .survey-of .ensures) (good .if1 .left) _ (c .before .if2 .left) in
     (span .kept, span .some)
 
 returns-3 : tie.Need-returns-3
 returns-3 c =
     let good = c .before .before .before in
-    ap Place.At (c .name-part .ensures) ∙ sym (name-there _ _ _ (good .before .before .survey-in .ensures) (good .if1 .left) _ (c .before .before .if2 .left))
+    ap Place.At (c .name-part .ensures) ∙ sym (name-there _ _ _ (good .before .before .survey-of .ensures) (good .if1 .left) _ (c .before .before .if2 .left))
 
 pub name-spec : {M : Type 1} → statement M
-name-spec = tie.close (tie.spec survey-in-requires returns returns-2 name-part-requires returns-3)
+name-spec = tie.close (tie.spec survey-of-requires returns returns-2 name-part-requires returns-3)

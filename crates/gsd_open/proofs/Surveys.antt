@@ -1,0 +1,152 @@
+-- Laws of the survey: the opening's number test by test, and what is known of an image where it is 0.
+use Prim.Native.Nat.{ℕ, zero, suc, _+_, _*_, _≤_, _<_}
+use mathlib.Core.Path.{_≡_, refl, sym, _∙_, ap}
+use mathlib.Core.List.{List}
+use native.Mathlib.Omega.{arith}
+use lib.ListN.{length, getD, length-map}
+use Rattle.gsd_format.specs.declared.Layout.{Layout}
+use Rattle.gsd_format.specs.Header.{greatestLength, layoutOf}
+use Rattle.gsd_format.specs.Names.{nameParts, bytesOf, namesOf}
+use Rattle.gsd_format.specs.Entries.{entryAt, entriesAt, entriesOf, framesOf, chunksEnd}
+use Rattle.gsd_format.specs.Refusals.{_▹_}
+use Rattle.gsd_format.specs.Opening.{headerTest, blocksTest, mostNames, namesTest, entriesTest, verdict}
+use Rattle.gsd_format.specs.Lookup.{none, nowhere}
+use Rattle.gsd_format.proofs.Refusals.{first-of, stays}
+use Rattle.gsd_format.proofs.Names.{namesAt, names-of, names-pass}
+use Rattle.gsd_format.proofs.Entries.{image-entries}
+use Rattle.gsd_format.proofs.Verdict.{Blocks, header-zero, blocks-zero, verdict-zero}
+use Rattle.gsd_open.specs.declared.index.Walk.{Walk}
+use Rattle.gsd_open.specs.declared.names.NameList.{NameList}
+use Rattle.gsd_open.specs.declared.survey.Survey.{Survey}
+use Rattle.gsd_open.specs.Index.{Walks}
+use Rattle.gsd_open.specs.NameLists.{partAt, namesIn, Spans, NamesFound}
+use Rattle.gsd_open.specs.Surveys.{Laid, Surveyed}
+use Rattle.gsd_open.proofs.NameLists.{found-count, found-names, found-part}
+
+-- a refusal says no more than its number
+refused : (img starts : List ℕ) (r : Survey) → r .number ≡ verdict img → (r .number ≡ 0 → ⊥) → Surveyed img starts r
+refused img starts r e n = record {
+  number = e;
+  layout = λ z. absurd (n z);
+  names = λ z. absurd (n z);
+  entries = λ z. absurd (n z);
+  frames = λ z. absurd (n z);
+  end = λ z. absurd (n z);
+}
+
+-- the verdict is the number of the first part that refuses
+pub bad-header : (img starts : List ℕ) (r : Survey) → r .number ≡ headerTest img → (r .number ≡ 0 → ⊥) → Surveyed img starts r
+unfolding verdict
+bad-header img starts r e n = refused img starts r (e ∙ sym (stays _ _ (λ z. n (e ∙ z)))) n
+
+pub bad-blocks : (img starts : List ℕ) (l : Layout) (r : Survey) → headerTest img ≡ 0 → l ≡ layoutOf img →
+    r .number ≡ blocksTest l → (r .number ≡ 0 → ⊥) → Surveyed img starts r
+unfolding verdict
+bad-blocks img starts l r header at e n =
+    let q : r .number ≡ blocksTest (layoutOf img) = e ∙ ap blocksTest at in
+    refused img starts r (q ∙ sym (stays _ _ (λ z. n (q ∙ z))) ∙ sym (first-of _ _ header)) n
+
+pub layout-length : (img : List ℕ) (l : Layout) → l ≡ layoutOf img → l .len ≡ length img
+unfolding layoutOf
+layout-length img l at = ap (λ k. k .len) at
+
+-- behind header and blocks
+module _ (img : List ℕ) (l : Layout) (laid : Laid img l) where
+  pub laid-length : l .len ≡ length img
+  laid-length = layout-length img l (laid .layout)
+
+  pub laid-short : length img ≤ greatestLength
+  laid-short = header-zero img .0 (laid .header) .high
+
+  pub laid-blocks : Blocks l
+  laid-blocks = blocks-zero l .0 (laid .blocks)
+
+  behind : verdict img ≡ namesTest img (layoutOf img) (namesOf img) ▹ entriesTest (layoutOf img) (length (namesOf img)) 0 0 (entriesOf img)
+  unfolding verdict
+  behind = first-of _ _ (laid .header) ∙ first-of _ _ (ap blocksTest (sym (laid .layout)) ∙ laid .blocks)
+
+  abbrev pub block : List (List ℕ)
+  block = namesAt img (l .namelist) (64 * l .segments)
+
+  block-names : block ≡ namesOf img
+  block-names = (λ i. namesAt img (laid .layout i .namelist) (64 * laid .layout i .segments)) ∙ sym (names-of img)
+
+  pub bad-names : (starts : List ℕ) (r : Survey) → r .number ≡ namesTest img l block → (r .number ≡ 0 → ⊥) → Surveyed img starts r
+  bad-names starts r e n =
+      let q : r .number ≡ namesTest img (layoutOf img) (namesOf img) = e ∙ (λ i. namesTest img (laid .layout i) (block-names i)) in
+      refused img starts r (q ∙ sym (stays _ _ (λ z. n (q ∙ z))) ∙ sym behind) n
+
+  -- where no part refuses, the answer is what the walk says
+  pub walked : (starts : List ℕ) (list : NameList) (w : Walk) → namesTest img l block ≡ 0 → NamesFound img (l .namelist) (64 * l .segments) starts list →
+      Walks l (list .count) (entriesAt img (l .index) (l .slots)) w →
+      Surveyed img starts (record { number = w .number; layout = l; names = list; entries = w .entries; frames = w .frames; end = w .end })
+  unfolding entriesOf
+  walked starts list w good found walks =
+      let es : entriesAt img (l .index) (l .slots) ≡ entriesOf img = λ i. entriesAt img (laid .layout i .index) (laid .layout i .slots) in
+      let count : list .count ≡ length (namesOf img) = sym (found-count img _ _ starts list found) ∙ ap length block-names in
+      record {
+        number = walks .number ∙ (λ i. entriesTest (laid .layout i) (count i) 0 0 (es i))
+            ∙ sym (first-of _ _ ((λ i. namesTest img (sym (laid .layout) i) (sym block-names i)) ∙ good)) ∙ sym behind;
+        layout = λ _. laid .layout;
+        names = λ _. rw (laid .layout) at found;
+        entries = λ z. walks .entries z ∙ ap length es;
+        frames = λ z. walks .frames z ∙ ap framesOf es;
+        end = λ z. walks .end z ∙ ap chunksEnd es;
+      }
+
+-- the slots of the listed entries
+module _ (img : List ℕ) (good : verdict img ≡ 0) (i : ℕ) (few : i < length (entriesOf img)) where
+  pub slot-within : layoutOf img .index + 32 * i + 32 ≤ length img
+  slot-within = omega (arith, verdict-zero img .0 good .blocks .indexHigh, layout-length img (layoutOf img) refl, image-entries img .few)
+
+  pub slot-entry : (at : ℕ) → at ≡ layoutOf img .index + 32 * i → entryAt img at ≡ getD (entriesOf img) i none
+  slot-entry at e = ap (entryAt img) e ∙ image-entries img .each i few
+
+-- the entries lie behind the header, in the image
+pub entries-within : (img : List ℕ) → verdict img ≡ 0 → 256 + 32 * length (entriesOf img) ≤ length img
+entries-within img good =
+    let blocks = verdict-zero img .0 good .blocks in
+    omega (arith, blocks .indexLow, blocks .indexHigh, layout-length img (layoutOf img) refl, image-entries img .few)
+
+-- By the survey
+
+-- a refusal passes the number on
+pub passed-on : {A : Type 0} (img : List ℕ) (refusal : ℕ → A) (answer : A) → ((k : ℕ) → verdict img ≡ suc k → answer ≡ refusal (suc k)) →
+    (number : ℕ) → number ≡ verdict img → (number ≡ 0 → ⊥) → refusal number ≡ answer
+passed-on img refusal answer h zero e n = absurd (n refl)
+passed-on img refusal answer h (suc k) e n = sym (h k (sym e))
+
+module _ (img starts : List ℕ) (s : Survey) (told : Surveyed img starts s) (good : s .number ≡ 0) where
+  pub opens : verdict img ≡ 0
+  opens = sym (told .number) ∙ good
+
+  listed : NamesFound img (layoutOf img .namelist) (64 * layoutOf img .segments) starts (s .names)
+  listed = told .names good
+
+  pub many-parts : s .names .count ≡ length (nameParts img)
+  unfolding nameParts
+  many-parts = listed .count
+
+  pub many-names : s .names .count ≡ length (namesOf img)
+  unfolding namesOf
+  many-names = many-parts ∙ sym (length-map (nameParts img) (bytesOf img))
+
+  pub few-names : s .names .count ≤ mostNames
+  few-names = omega (arith, many-names, names-pass img (layoutOf img) (namesOf img) (verdict-zero img .0 opens .names) .1)
+
+  pub spans : Spans starts (s .names .count) (length img)
+  spans = listed .spans few-names
+
+  pub kept-names : namesIn img starts (s .names .count) ≡ namesOf img
+  kept-names = found-names img _ _ starts (s .names) listed few-names ∙ sym (names-of img)
+
+  pub kept-part : (n : ℕ) → n < s .names .count → getD (nameParts img) n nowhere ≡ partAt starts n
+  unfolding nameParts
+  kept-part n h = found-part img _ _ starts (s .names) listed few-names n h
+
+  -- the slots of its entries
+  pub index-there : s .layout .index ≡ layoutOf img .index
+  index-there = ap (λ l. l .index) (told .layout good)
+
+  pub entry-within : (n : ℕ) → n < s .entries → s .layout .index + 32 * n + 32 ≤ length img
+  entry-within n h = omega (arith, slot-within img opens n (omega (arith, told .entries good)), index-there)

@@ -1,0 +1,43 @@
+-- The tests of one index entry in two parts, and what the walk over the entries answers.
+use Prim.Native.Nat.{ℕ, _+_, _*_, _^_, _≤_, _<_}
+use mathlib.Core.Path.{_≡_}
+use mathlib.Core.Bool.{not, _||_}
+use mathlib.Core.List.{List}
+use lib.ListN.{length}
+use lib.Dec.{ltb, leb}
+use Rattle.gsd_format.specs.declared.Entry.{Entry}
+use Rattle.gsd_format.specs.declared.Layout.{Layout}
+use Rattle.gsd_format.specs.Bytes.{meets}
+use Rattle.gsd_format.specs.Types.{known}
+use Rattle.gsd_format.specs.Refusals.{_⇒_, _▹_}
+use Rattle.gsd_format.specs.Header.{headerSize, greatestLength}
+use Rattle.gsd_format.specs.Entries.{framesOf, chunksEnd}
+use Rattle.gsd_format.specs.Opening.{follows, entriesTest}
+use Rattle.gsd_open.specs.declared.index.Walk.{Walk}
+
+-- r stands for a whole number of bytes: it is that number, or both are more than any slice has
+pub record Capped (whole r : ℕ) : Type 0 where
+  pub exact : whole ≤ greatestLength → r ≡ whole
+  pub beyond : greatestLength < whole → greatestLength < r
+  pub fits : r ≤ 2 ^ 63
+
+-- 12 to 15: the entry by itself and behind the one before
+unfoldable pub fieldsTest : ℕ → ℕ → ℕ → Entry → ℕ
+fieldsTest names least top e =
+    (ltb (e .location) headerSize || leb (2 ^ 63) (e .location) ⇒ 12)
+    ▹ (not (known (e .kind)) ⇒ 13)
+    ▹ (leb names (e .id) ⇒ 14)
+    ▹ (not (follows least top e) ⇒ 15)
+
+-- 16 and 17: n bytes from place a lie in the slice and outside both blocks
+unfoldable pub roomTest : Layout → ℕ → ℕ → ℕ
+roomTest l a n =
+    (ltb (l .len) (a + n) ⇒ 16)
+    ▹ (meets a n (l .index) (32 * l .slots) || meets a n (l .namelist) (64 * l .segments) ⇒ 17)
+
+-- what the walk over the listed entries es answers
+pub record Walks (l : Layout) (names : ℕ) (es : List Entry) (r : Walk) : Type 0 where
+  pub number : r .number ≡ entriesTest l names 0 0 es
+  pub entries : r .number ≡ 0 → r .entries ≡ length es
+  pub frames : r .number ≡ 0 → r .frames ≡ framesOf es
+  pub end : r .number ≡ 0 → r .end ≡ chunksEnd es

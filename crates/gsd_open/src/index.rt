@@ -1,0 +1,156 @@
+// The index block: its entries, their tests, and one walk over them.
+use crate::refusal::refuse;
+use crate::stretch::greater;
+use crate::stretch::lesser;
+use crate::stretch::share;
+use gsd_bytes::size_of;
+use gsd_bytes::u16_at;
+use gsd_bytes::u32_at;
+use gsd_bytes::u64_at;
+use gsd_format::Entry;
+use gsd_format::Layout;
+ghost use mathlib.Core.Path.{_≡_};
+ghost use Prim.Native.Nat.{_+_, _*_, _^_, _≤_, _<_};
+ghost use lib.ListN.{length};
+ghost use Rattle.gsd_format.specs.Types.{sizeOf, chunkSize};
+ghost use Rattle.gsd_format.specs.Header.{greatestLength};
+ghost use Rattle.gsd_format.specs.Entries.{entryAt, entriesAt, key};
+ghost use Rattle.gsd_format.specs.Opening.{follows, entryTest};
+ghost use Rattle.gsd_format.proofs.Verdict.{Blocks};
+ghost use Rattle.gsd_open.specs.Index.{Capped, fieldsTest, roomTest, Walks};
+
+// What the walk over the entries finds: a refusal's number or 0, and where that is 0 the entries, the frames and where
+// the last of the chunks ends.
+pub struct Walk {
+    pub number: u64,
+    pub entries: u64,
+    pub frames: u64,
+    pub end: u64,
+}
+
+// The entry at a place.
+pub fn entry_at(image: &[u8], at: usize) -> Entry
+    requires { ⌜ at + 32 ≤ length (now image) ⌝ }
+    ensures { λ r. ⌜ r ≡ entryAt (now (image .entry)) at ⌝ }
+{
+    Entry {
+        frame: u64_at(image, at),
+        n: u64_at(image, at + 8),
+        location: u64_at(image, at + 16),
+        m: u32_at(image, at + 24) as u32,
+        id: u16_at(image, at + 28) as u16,
+        kind: image[at + 30],
+        flags: image[at + 31],
+    }
+}
+
+// The bytes of a chunk, cut above the longest slice so that no product wraps.
+pub fn chunk_bytes(n: u64, m: u32, kind: u8) -> u64
+    ensures { λ r. ⌜ Capped (n * m * sizeOf kind) r ⌝ }
+{
+    lesser(n, 1073741825) * lesser(m as u64 * size_of(kind), 1073741825)
+}
+
+// (frame, id) in its order, as one number.
+fn key_of(e: Entry) -> u64
+    requires { ⌜ e .frame < 2 ^ 47 ⌝ }
+    ensures { λ r. ⌜ (r ≡ key e) × (r < 2 ^ 63) ⌝ }
+{
+    65536 * e.frame + (e.id as u64)
+}
+
+// Does the entry follow one whose key is below least and whose frame is top - 1?
+fn follows_last(least: u64, top: u64, e: Entry) -> bool
+    requires { ⌜ top < 2 ^ 47 ⌝ }
+    ensures { λ r. ⌜ r ≡ follows least top e ⌝ }
+{
+    if top < e.frame {
+        return false;
+    }
+    least <= key_of(e)
+}
+
+// 12 to 15: the entry by itself and behind the one before.
+fn fields_number(names: u64, least: u64, top: u64, e: Entry) -> u64
+    requires { ⌜ top < 2 ^ 47 ⌝ }
+    ensures { λ r. ⌜ r ≡ fieldsTest names least top e ⌝ }
+{
+    if e.location < 256 {
+        return 12;
+    }
+    if 9223372036854775808 <= e.location {
+        return 12;
+    }
+    if size_of(e.kind) == 0 {
+        return 13;
+    }
+    if names <= e.id as u64 {
+        return 14;
+    }
+    refuse(!follows_last(least, top, e), 15)
+}
+
+// 16 and 17: n bytes from place a lie in the slice and outside both blocks.
+fn room_number(l: Layout, a: u64, n: u64) -> u64
+    requires { ⌜ Blocks l × (l .len ≤ greatestLength) × (a < 2 ^ 63) × (n ≤ 2 ^ 63) ⌝ }
+    ensures { λ r. ⌜ r ≡ roomTest l a n ⌝ }
+{
+    if (l.len as u64) < a + n {
+        return 16;
+    }
+    if share(a, n, l.index, 32 * l.slots) {
+        return 17;
+    }
+    if share(a, n, l.namelist, 64 * l.segments) {
+        return 17;
+    }
+    0
+}
+
+// 12 to 17 for one entry, whose chunk has size bytes.
+fn entry_number(l: Layout, names: u64, least: u64, top: u64, e: Entry, size: u64) -> u64
+    requires { ⌜ Blocks l × (l .len ≤ greatestLength) × (top < 2 ^ 47) × Capped (chunkSize e) size ⌝ }
+    ensures { λ r. ⌜ r ≡ entryTest l names least top e ⌝ }
+{
+    let number = fields_number(names, least, top, e);
+    if number != 0 {
+        return number;
+    }
+    room_number(l, e.location, size)
+}
+
+// One pass over the listed entries.
+pub(crate) fn walk_entries(image: &[u8], l: Layout, names: u64) -> Walk
+    requires { ⌜ Blocks l × (l .len ≤ greatestLength) × (length (now image) ≡ l .len) ⌝ }
+    ensures { λ r. ⌜ Walks l names (entriesAt (now (image .entry)) (l .index) (l .slots)) r ⌝ }
+{
+    let slots = l.slots;
+    let mut at = l.index as usize;
+    let mut i = 0;
+    let mut least = 0;
+    let mut top = 0;
+    let mut end = 0;
+    let mut number = 0;
+    while i < slots {
+        let e = entry_at(image, at);
+        if e.location == 0 {
+            break;
+        }
+        let size = chunk_bytes(e.n, e.m, e.kind);
+        number = entry_number(l, names, least, top, e, size);
+        if number != 0 {
+            break;
+        }
+        least = key_of(e) + 1;
+        top = e.frame + 1;
+        end = greater(end, e.location + size);
+        at += 32;
+        i += 1;
+    }
+    Walk {
+        number,
+        entries: i,
+        frames: top,
+        end,
+    }
+}

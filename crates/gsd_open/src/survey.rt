@@ -1,0 +1,86 @@
+// An image opened once: its number, and all that a lookup or an append needs of it.
+use crate::header::blocks_number;
+use crate::header::header_number;
+use crate::header::layout_of;
+use crate::index::walk_entries;
+use crate::names::NameList;
+use crate::names::name_list;
+use crate::names::names_number;
+use gsd_format::Layout;
+ghost use mathlib.Core.Path.{_≡_};
+ghost use lib.ListN.{length};
+ghost use Rattle.gsd_open.specs.Surveys.{Laid, Surveyed};
+
+// The opening's number; where that is 0, where the blocks lie, the name list, the counts of entries and frames, and
+// where the last of the chunks ends.
+pub struct Survey {
+    pub number: u64,
+    pub layout: Layout,
+    pub names: NameList,
+    pub entries: u64,
+    pub frames: u64,
+    pub end: u64,
+}
+
+fn refusal(number: u64) -> Survey
+    ensures { λ r. ⌜ r .number ≡ number ⌝ }
+{
+    Survey {
+        number,
+        layout: Layout {
+            len: 0,
+            index: 0,
+            slots: 0,
+            namelist: 0,
+            segments: 0,
+        },
+        names: NameList { count: 0, end: 0 },
+        entries: 0,
+        frames: 0,
+        end: 0,
+    }
+}
+
+// The name list and the entry list, where header and blocks are good.
+fn survey_lists(image: &[u8], layout: Layout, starts: &mut [u32; 1025]) -> Survey
+    requires { ⌜ Laid (now image) layout × (length (now starts) ≡ 1025) ⌝ }
+    ensures { λ r. ⌜ Surveyed (now (image .entry)) (now (starts .exit)) r ⌝ }
+{
+    let names = name_list(
+        image,
+        layout.namelist as usize,
+        64 * layout.segments as usize,
+        starts,
+    );
+    let number = names_number(image, layout, names, starts);
+    if number != 0 {
+        return refusal(number);
+    }
+    let walk = walk_entries(image, layout, names.count as u64);
+    Survey {
+        number: walk.number,
+        layout,
+        names,
+        entries: walk.entries,
+        frames: walk.frames,
+        end: walk.end,
+    }
+}
+
+// The only place that opens an image: every call for users starts here. The names' places go to starts, which is lent
+// because an answer of its size would be copied.
+pub fn survey_of(image: &[u8], starts: &mut [u32; 1025]) -> Survey
+    requires { ⌜ length (now starts) ≡ 1025 ⌝ }
+    ensures { λ r. ⌜ Surveyed (now (image .entry)) (now (starts .exit)) r ⌝ }
+{
+    let number = header_number(image);
+    if number != 0 {
+        return refusal(number);
+    }
+    let layout = layout_of(image);
+    let number = blocks_number(layout);
+    if number != 0 {
+        return refusal(number);
+    }
+    survey_lists(image, layout, starts)
+}
