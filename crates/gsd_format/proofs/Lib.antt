@@ -13,3 +13,4 @@ pub mod Lookup
 pub mod Listing
 pub mod Create
 pub mod Elements
+pub mod Calls

@@ -2,6 +2,8 @@
 use Prim.Native.Nat.{ℕ, _-_, _^_}
 use mathlib.Core.List.{List, [], _∷_}
 use lib.IntN.{ℤ, pos, negsuc}
+use Rattle.gsd_format.specs.declared.Entry.{Entry}
+use Rattle.gsd_format.specs.declared.Part.{Part}
 use Rattle.gsd_format.specs.declared.Opening.{Opening}
 use Rattle.gsd_format.specs.declared.Listed.{Listed}
 use Rattle.gsd_format.specs.declared.Place.{Place}
@@ -20,16 +22,22 @@ listedNumber (Listed.Found e) = 0
 listedNumber (Listed.Refused n) = n
 
 -- all 32 bytes of the entry
+abbrev pub entryValues : Entry → List ℕ
+entryValues e = e .frame ∷ e .n ∷ e .location ∷ e .m ∷ e .id ∷ e .kind ∷ e .flags ∷ []
+
 unfoldable pub listedValues : Listed → List ℕ
-listedValues (Listed.Found e) = e .frame ∷ e .n ∷ e .location ∷ e .m ∷ e .id ∷ e .kind ∷ e .flags ∷ []
+listedValues (Listed.Found e) = entryValues e
 listedValues (Listed.Refused n) = []
 
 unfoldable pub placeNumber : Place → ℕ
 placeNumber (Place.At p) = 0
 placeNumber (Place.Refused n) = n
 
+abbrev pub partValues : Part → List ℕ
+partValues p = p .start ∷ p .size ∷ []
+
 unfoldable pub placeValues : Place → List ℕ
-placeValues (Place.At p) = p .start ∷ p .size ∷ []
+placeValues (Place.At p) = partValues p
 placeValues (Place.Refused n) = []
 
 unfoldable pub elementNumber : Element → ℕ

@@ -13,3 +13,4 @@ pub mod Elements
 pub mod Create
 pub mod Listing
 pub mod Answers
+pub mod Calls

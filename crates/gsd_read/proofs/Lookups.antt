@@ -30,7 +30,7 @@ use Rattle.gsd_format.proofs.Lookup.{find-end, find-sound, look-found, opened-l
 use Rattle.gsd_format.proofs.Elements.{element-at}
 use Rattle.gsd_open.specs.Index.{Capped}
 use Rattle.gsd_open.proofs.Surveys.{layout-length, slot-entry}
-use Rattle.gsd_read.specs.Lookups.{Inside, Held}
+use Rattle.gsd_read.specs.Lookups.{Inside, LiesAt, Held}
 
 -- The search for an entry
 
@@ -73,6 +73,15 @@ module _ (img : List ℕ) (place : Place) where
   pub bytes-none : (n : ℕ) → place ≡ Place.Refused n → bytesAt img place ≡ []
   unfolding bytesAt
   bytes-none n e = ap (bytesAt img) e
+
+-- the pointer of a part that starts at a place
+pub lies-at : (place : Place) (p : Part) (block offset : ℕ) → place ≡ Place.At p → LiesAt (block, offset) place (block, p .start + offset)
+unfolding LiesAt
+lies-at place p block offset e = rw e (refl, omega arith)
+
+pub lies-anywhere : (place : Place) (n : ℕ) (p q : ℕ × ℕ) → place ≡ Place.Refused n → LiesAt p place q
+unfolding LiesAt
+lies-anywhere place n p q e = rw e tt
 
 pub name-inside : (img : List ℕ) (n : ℕ) → Inside img (nthName img n)
 unfolding Inside nameParts

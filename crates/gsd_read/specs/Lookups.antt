@@ -1,5 +1,6 @@
--- What is found lies in the image.
+-- What is found lies in the image, and is handed out as that part of the image itself.
 use Prim.Native.Nat.{ℕ, _+_, _≤_, _<_}
+use mathlib.Core.Path.{_≡_}
 use mathlib.Core.List.{List}
 use lib.ListN.{length}
 use Rattle.gsd_format.specs.declared.Entry.{Entry}
@@ -11,6 +12,12 @@ use Rattle.gsd_format.specs.Header.{greatestLength}
 unfoldable pub Inside : List ℕ → Place → Type 0
 Inside img (Place.At p) = p .start + p .size ≤ length img
 Inside img (Place.Refused n) = Unit
+
+-- In memory, a slice that is lent at p lies at a place, and the part that is handed out lies at q: it is that part itself, and
+-- not another with the same bytes. Where a refusal's empty part lies is free
+unfoldable pub LiesAt : ℕ × ℕ → Place → ℕ × ℕ → Type 0
+LiesAt p (Place.At a) q = (q .0 ≡ p .0) × (q .1 ≡ p .1 + a .start)
+LiesAt p (Place.Refused n) q = Unit
 
 -- an entry of a known type whose chunk lies in the image
 pub record Held (img : List ℕ) (e : Entry) : Type 0 where

@@ -9,6 +9,8 @@ ghost use lib.ListN.{length};
 ghost use Rattle.gsd_format.specs.Bytes.{le};
 ghost use Rattle.gsd_format.specs.Types.{sizeOf};
 ghost use Rattle.gsd_format.specs.Elements.{elementOf, elementIn, element};
+ghost use Rattle.gsd_format.specs.Answers.{elementNumber, elementValues};
+ghost use Rattle.gsd_format.specs.Calls.{elementTest, nthElementValues};
 ghost use Rattle.gsd_read.specs.Lookups.{Held};
 use crate::found::lookup;
 use gsd_bytes::size_of;
@@ -132,8 +134,11 @@ fn element_in(image: &[u8], e: Entry, k: u64) -> Element
     element_of(e.kind, bits_at(image, at as usize, e.kind))
 }
 
+// The k-th element of the chunk of a frame and a name, from 0, with its exact bits.
 pub fn element(image: &[u8], frame: u64, name: &[u8], k: u64) -> Element
     ensures { λ r. ⌜ r ≡ element (now (image .entry)) frame (now (name .entry)) k ⌝ }
+    ensures number { λ r. ⌜ elementNumber r ≡ elementTest (now (image .entry)) frame (now (name .entry)) k ⌝ }
+    ensures values { λ r. ⌜ elementValues r ≡ nthElementValues (now (image .entry)) frame (now (name .entry)) k ⌝ }
 {
     match lookup(image, frame, name) {
         Listed::Found(e) => element_in(image, e, k),

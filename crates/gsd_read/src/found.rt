@@ -18,10 +18,16 @@ ghost use Rattle.gsd_format.specs.Header.{layoutOf};
 ghost use Rattle.gsd_format.specs.Entries.{entriesOf};
 ghost use Rattle.gsd_format.specs.Opening.{verdict, opening};
 ghost use Rattle.gsd_format.specs.Lookup.{nthEntry, nthName, findEntry, lookup, chunkPlace, bytesAt};
-ghost use Rattle.gsd_read.specs.Lookups.{Inside};
+ghost use Rattle.gsd_format.specs.Answers.{openingNumber, openingValues, listedNumber, listedValues, placeNumber, placeValues};
+ghost use Rattle.gsd_format.specs.Calls.{openValues, nthEntryTest, nthEntryValues, nthNameTest, nthNameValues};
+ghost use Rattle.gsd_format.specs.Calls.{lookupTest, lookupValues, chunkValues};
+ghost use Rattle.gsd_read.specs.Lookups.{Inside, LiesAt};
 
+// How many frames, names and entries an image has, or why it is refused.
 pub fn open(image: &[u8]) -> Opening
     ensures { λ r. ⌜ r ≡ opening (now (image .entry)) ⌝ }
+    ensures number { λ r. ⌜ openingNumber r ≡ verdict (now (image .entry)) ⌝ }
+    ensures values { λ r. ⌜ openingValues r ≡ openValues (now (image .entry)) ⌝ }
 {
     let mut starts = [0u32; 1025];
     let s = survey_of(image, &mut starts);
@@ -35,8 +41,11 @@ pub fn open(image: &[u8]) -> Opening
     })
 }
 
+// The n-th of the listed entries, from 0.
 pub fn entry(image: &[u8], n: u64) -> Listed
     ensures { λ r. ⌜ r ≡ nthEntry (now (image .entry)) n ⌝ }
+    ensures number { λ r. ⌜ listedNumber r ≡ nthEntryTest (now (image .entry)) n ⌝ }
+    ensures values { λ r. ⌜ listedValues r ≡ nthEntryValues (now (image .entry)) n ⌝ }
 {
     let mut starts = [0u32; 1025];
     let s = survey_of(image, &mut starts);
@@ -49,8 +58,11 @@ pub fn entry(image: &[u8], n: u64) -> Listed
     Listed::Found(entry_at(image, (s.layout.index + 32 * n) as usize))
 }
 
+// Where the name with id n lies, without its zero.
 pub fn name(image: &[u8], n: u64) -> Place
     ensures { λ r. ⌜ r ≡ nthName (now (image .entry)) n ⌝ }
+    ensures number { λ r. ⌜ placeNumber r ≡ nthNameTest (now (image .entry)) n ⌝ }
+    ensures values { λ r. ⌜ placeValues r ≡ nthNameValues (now (image .entry)) n ⌝ }
 {
     let mut starts = [0u32; 1025];
     let s = survey_of(image, &mut starts);
@@ -67,6 +79,7 @@ pub fn name(image: &[u8], n: u64) -> Place
 fn part_at(image: &[u8], place: Place) -> &[u8]
     requires { ⌜ Inside (now image) place ⌝ }
     ensures { λ r. ⌜ now r ≡ bytesAt (now (image .entry)) place ⌝ }
+    ensures itself { λ r. ⌜ LiesAt (image .entry .ptr) place (r .ptr) ⌝ }
 {
     match place {
         Place::At(p) => {
@@ -78,8 +91,10 @@ fn part_at(image: &[u8], place: Place) -> &[u8]
     }
 }
 
+// The name with id n as that part of the image itself; a refusal gives an empty part.
 pub fn name_bytes(image: &[u8], n: u64) -> &[u8]
     ensures { λ r. ⌜ now r ≡ bytesAt (now (image .entry)) (nthName (now (image .entry)) n) ⌝ }
+    ensures itself { λ r. ⌜ LiesAt (image .entry .ptr) (nthName (now (image .entry)) n) (r .ptr) ⌝ }
 {
     part_at(image, name(image, n))
 }
@@ -111,9 +126,11 @@ fn find_entry(image: &[u8], index: u64, count: u64, frame: u64, id: u64) -> List
     Listed::Refused(42)
 }
 
-// Any bytes may be asked as a name.
+// The entry of a frame and a name. Any bytes may be asked as a name.
 pub fn lookup(image: &[u8], frame: u64, name: &[u8]) -> Listed
     ensures { λ r. ⌜ r ≡ lookup (now (image .entry)) frame (now (name .entry)) ⌝ }
+    ensures number { λ r. ⌜ listedNumber r ≡ lookupTest (now (image .entry)) frame (now (name .entry)) ⌝ }
+    ensures values { λ r. ⌜ listedValues r ≡ lookupValues (now (image .entry)) frame (now (name .entry)) ⌝ }
 {
     let mut starts = [0u32; 1025];
     let s = survey_of(image, &mut starts);
@@ -131,8 +148,11 @@ pub fn lookup(image: &[u8], frame: u64, name: &[u8]) -> Listed
     find_entry(image, s.layout.index, s.entries, frame, id as u64)
 }
 
+// Where the chunk of a frame and a name lies, or the lookup's number.
 pub fn chunk_place(image: &[u8], frame: u64, name: &[u8]) -> Place
     ensures { λ r. ⌜ r ≡ chunkPlace (now (image .entry)) frame (now (name .entry)) ⌝ }
+    ensures number { λ r. ⌜ placeNumber r ≡ lookupTest (now (image .entry)) frame (now (name .entry)) ⌝ }
+    ensures values { λ r. ⌜ placeValues r ≡ chunkValues (now (image .entry)) frame (now (name .entry)) ⌝ }
 {
     match lookup(image, frame, name) {
         Listed::Found(e) => Place::At(Part {
@@ -143,9 +163,11 @@ pub fn chunk_place(image: &[u8], frame: u64, name: &[u8]) -> Place
     }
 }
 
-// The part of the image itself; a refusal gives an empty part.
+// The chunk of a frame and a name as that part of the image itself; a refusal gives an empty part, and the lookup tells
+// it from an empty chunk.
 pub fn chunk<'a>(image: &'a [u8], frame: u64, name: &[u8]) -> &'a [u8]
     ensures { λ r. ⌜ now r ≡ bytesAt (now (image .entry)) (chunkPlace (now (image .entry)) frame (now (name .entry))) ⌝ }
+    ensures itself { λ r. ⌜ LiesAt (image .entry .ptr) (chunkPlace (now (image .entry)) frame (now (name .entry))) (r .ptr) ⌝ }
 {
     let place = chunk_place(image, frame, name);
     part_at(image, place)

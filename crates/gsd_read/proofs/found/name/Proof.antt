@@ -3,6 +3,7 @@ use mathlib.Core.Path.{sym, _∙_, ap}
 use borrow.Author.Needs.{needs}
 use Rattle.gsd_format.specs.declared.Place.{Place}
 use Rattle.gsd_format.proofs.Lookup.{refused-name}
+use Rattle.gsd_format.proofs.Calls.{name-says}
 use Rattle.gsd_open.proofs.Surveys.{passed-on, spans}
 use Rattle.gsd_read.proofs.Answers.{name-there, no-name}
 use Rattle.gsd_read.proofs.found.name.Statement.{statement}
@@ -12,10 +13,10 @@ survey-of-requires : tie.Need-survey-of-requires
 survey-of-requires c κs = search needs
 
 returns : tie.Need-returns
-returns c = passed-on _ Place.Refused _ (λ k r. refused-name _ k r _) _ (c .before .before .survey-of .ensures .number) (c .if1 .taken)
+returns c = name-says _ _ _ (passed-on _ Place.Refused _ (λ k r. refused-name _ k r _) _ (c .before .before .survey-of .ensures .number) (c .if1 .taken))
 
 returns-2 : tie.Need-returns-2
-returns-2 c = sym (no-name _ _ _ (c .before .before .before .survey-of .ensures) (c .before .if1 .left) _ (c .if2 .taken))
+returns-2 c = name-says _ _ _ (sym (no-name _ _ _ (c .before .before .before .survey-of .ensures) (c .before .if1 .left) _ (c .if2 .taken)))
 
 name-part-requires : tie.Need-name-part-requires
 name-part-requires c κs =
@@ -26,7 +27,8 @@ name-part-requires c κs =
 returns-3 : tie.Need-returns-3
 returns-3 c =
     let good = c .before .before .before in
-    ap Place.At (c .name-part .ensures) ∙ sym (name-there _ _ _ (good .before .before .survey-of .ensures) (good .if1 .left) _ (c .before .before .if2 .left))
+    let there = name-there _ _ _ (good .before .before .survey-of .ensures) (good .if1 .left) _ (c .before .before .if2 .left) in
+    name-says _ _ _ (ap Place.At (c .name-part .ensures) ∙ sym there)
 
 pub name-spec : {M : Type 1} → statement M
 name-spec = tie.close (tie.spec survey-of-requires returns returns-2 name-part-requires returns-3)

@@ -2,7 +2,7 @@
 use mathlib.Core.Path.{sym}
 use native.Mathlib.Omega.{arith}
 use borrow.Author.Needs.{needs}
-use Rattle.gsd_read.proofs.Lookups.{inside-at, bytes-at, bytes-none}
+use Rattle.gsd_read.proofs.Lookups.{inside-at, bytes-at, bytes-none, lies-at, lies-anywhere}
 use Rattle.gsd_read.proofs.found.part_at.Statement.{statement}
 use Rattle.gsd_read.proofs.found.part_at.Tie as tie
 
@@ -34,10 +34,10 @@ part-result-end-2 : tie.Need-part-result-end-2
 part-result-end-2 c = search needs
 
 returns : tie.Need-returns
-returns c = sym (bytes-at _ _ _ (c .before .before .before .place .given .1))
+returns c = let at = c .before .before .before .place .given .1 in (sym (bytes-at _ _ _ at), lies-at _ _ _ _ at)
 
 returns-2 : tie.Need-returns-2
-returns-2 c = sym (bytes-none _ _ _ (c .before .enum-told .given .1))
+returns-2 c = let no = c .before .enum-told .given .1 in (sym (bytes-none _ _ _ no), lies-anywhere _ _ _ _ no)
 
 pub part-at-spec : {M : Type 1} → statement M
 part-at-spec =
