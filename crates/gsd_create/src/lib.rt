@@ -126,10 +126,10 @@ pub fn create(
 {
     let m = or_default(slots, DEFAULT_SLOTS);
     let k = or_default(segments, DEFAULT_SEGMENTS);
-    let refused = create_test(image.len(), application, schema, m, k);
-    if refused != 0 {
-        return refused;
+    let number = create_test(image.len(), application, schema, m, k);
+    if number != 0 {
+        return number;
     }
     lay_out(image, application, schema, schema_version, m, k);
-    0
+    number
 }

@@ -1,22 +1,25 @@
 -- Each call's answer by its number: the refusal of that number, or the answer where the number is 0. So contracts say the
 -- number and the values of the enum that a call answers.
 use Prim.Native.Nat.{ℕ, zero, suc, _*_}
-use mathlib.Core.Path.{_≡_, refl, _∙_, ap}
+use mathlib.Core.Path.{_≡_, refl, sym, _∙_, ap}
 use mathlib.Core.Bool.{Bool, true, false, not, _||_}
 use mathlib.Core.List.{List, [], _∷_}
+use native.Mathlib.Omega.{arith}
 use lib.ListN.{length, getD}
 use lib.Dec.{ltb, leb, eqb}
+use lib.Ieee as Ieee
 use Rattle.gsd_format.specs.declared.Entry.{Entry}
 use Rattle.gsd_format.specs.declared.Opening.{Opening}
 use Rattle.gsd_format.specs.declared.Listed.{Listed}
 use Rattle.gsd_format.specs.declared.Place.{Place}
 use Rattle.gsd_format.specs.declared.Element.{Element}
 use Rattle.gsd_format.specs.Refusals.{_⇒_, _▹_}
+use Rattle.gsd_format.specs.Types.{sizeOf}
 use Rattle.gsd_format.specs.Names.{nameParts, namesOf, indexOf}
 use Rattle.gsd_format.specs.Entries.{entriesOf, framesOf}
 use Rattle.gsd_format.specs.Opening.{verdict, countsOf, opening}
 use Rattle.gsd_format.specs.Lookup.{none, nowhere, nthEntry, nthName, findEntry, lookupIn, lookup, chunkPart, placed, chunkPlace}
-use Rattle.gsd_format.specs.Elements.{elementOf, elementIn, element}
+use Rattle.gsd_format.specs.Elements.{signed, elementOf, elementIn, element}
 use Rattle.gsd_format.specs.Answers.{openingNumber, openingValues, listedNumber, listedValues, placeNumber, placeValues}
 use Rattle.gsd_format.specs.Answers.{elementNumber, elementValues}
 use Rattle.gsd_format.specs.Calls.{unless, openValues, nthEntryTest, nthEntryValues, nthNameTest, nthNameValues, isEntry, hasEntry, entryFor}
@@ -63,6 +66,16 @@ module _ {A : Type 0} (refused : ℕ → A) where
     pub says : (n : ℕ) (a r : A) → a ≡ by n x → r ≡ a → (r ≡ a) × ((number r ≡ n) × (values r ≡ unless n (values x)))
     says n a r e h = (h, (ap number (h ∙ e) ∙ by-number n, ap values (h ∙ e) ∙ by-values n))
 
+    -- no refusal has the number 0
+    numbers : (values x ≡ [] → ⊥) → (n : ℕ) (a : A) → a ≡ by n x → a ≡ refused 0 → ⊥
+    unfolding by
+    numbers some zero a e h = some (ap values (sym e ∙ h) ∙ empty 0)
+    numbers some (suc n) a e h = let z : suc n ≡ 0 = sym (numbered (suc n)) ∙ ap number (sym e ∙ h) ∙ numbered 0 in omega arith
+
+-- a list that has a first is not empty
+some : (v : ℕ) (vs : List ℕ) → v ∷ vs ≡ [] → ⊥
+some v vs e = let z : suc (length vs) ≡ 0 = ap length e in omega arith
+
 -- Opening
 
 opening-by : (img : List ℕ) → opening img ≡ by Opening.Refused (verdict img) (Opening.Open (countsOf img))
@@ -79,6 +92,10 @@ pub opening-says : (img : List ℕ) (r : Opening) → r ≡ opening img →
 unfolding openingNumber openingValues countsOf
 opening-says img r = says Opening.Refused openingNumber openingValues (λ n. refl) (λ n. refl) _ refl _ _ r (opening-by img)
 
+pub opening-numbers : (img : List ℕ) → opening img ≡ Opening.Refused 0 → ⊥
+unfolding openingNumber openingValues
+opening-numbers img = numbers Opening.Refused openingNumber openingValues (λ n. refl) (λ n. refl) _ refl (some _ _) _ _ (opening-by img)
+
 -- The n-th entry and the n-th name
 
 module _ (img : List ℕ) (n : ℕ) where
@@ -93,6 +110,10 @@ module _ (img : List ℕ) (n : ℕ) where
   unfolding listedNumber listedValues
   entry-says r = says Listed.Refused listedNumber listedValues (λ n. refl) (λ n. refl) _ refl _ _ r entry-by
 
+  pub entry-numbers : nthEntry img n ≡ Listed.Refused 0 → ⊥
+  unfolding listedNumber listedValues
+  entry-numbers = numbers Listed.Refused listedNumber listedValues (λ n. refl) (λ n. refl) _ refl (some _ _) _ _ entry-by
+
   name-by : nthName img n ≡ by Place.Refused (nthNameTest img n) (Place.At (getD (nameParts img) n nowhere))
   unfolding nthName
   name-by =
@@ -103,6 +124,10 @@ module _ (img : List ℕ) (n : ℕ) where
       (r ≡ nthName img n) × ((placeNumber r ≡ nthNameTest img n) × (placeValues r ≡ nthNameValues img n))
   unfolding placeNumber placeValues
   name-says r = says Place.Refused placeNumber placeValues (λ n. refl) (λ n. refl) _ refl _ _ r name-by
+
+  pub name-numbers : nthName img n ≡ Place.Refused 0 → ⊥
+  unfolding placeNumber placeValues
+  name-numbers = numbers Place.Refused placeNumber placeValues (λ n. refl) (λ n. refl) _ refl (some _ _) _ _ name-by
 
 -- The lookup, and what passes on its number
 
@@ -118,14 +143,23 @@ find-by frame id (e ∷ es) = go (isEntry frame id e) (find-by frame id es)
     go true h = refl
     go false h = h
 
--- an element is no refusal
-one-of : (t : Bool) (x y : Element) → elementNumber x ≡ 0 → elementNumber y ≡ 0 → elementNumber (elim t [ true ↦ x | false ↦ y ]) ≡ 0
-one-of true x y h g = h
-one-of false x y h g = g
+-- an element is no refusal, and has values
+one-of : (P : Element → Type 0) (t : Bool) (x y : Element) → P x → P y → P (elim t [ true ↦ x | false ↦ y ])
+one-of P true x y h g = h
+one-of P false x y h g = g
+
+of-four : (P : Element → Type 0) (kind bits : ℕ) → P (Element.Unsigned bits) → P (Element.Signed (signed (sizeOf kind) bits)) →
+    P (Element.Single (Ieee.ofBits Ieee.binary32 bits) bits) → P (Element.Double (Ieee.ofBits Ieee.binary64 bits) bits) → P (elementOf kind bits)
+unfolding elementOf
+of-four P kind bits u i f d = one-of P (leb kind 4) _ _ u (one-of P (leb kind 8) _ _ i (one-of P (eqb kind 9) _ _ f d))
 
 no-refusal : (kind bits : ℕ) → elementNumber (elementOf kind bits) ≡ 0
-unfolding elementOf elementNumber
-no-refusal kind bits = one-of (leb kind 4) _ _ refl (one-of (leb kind 8) _ _ refl (one-of (eqb kind 9) _ _ refl refl))
+unfolding elementNumber
+no-refusal kind bits = of-four (λ x. elementNumber x ≡ 0) kind bits refl refl refl refl
+
+has-values : (kind bits : ℕ) → elementValues (elementOf kind bits) ≡ [] → ⊥
+unfolding elementValues
+has-values kind bits = of-four (λ x. elementValues x ≡ [] → ⊥) kind bits (some _ _) (some _ _) (some _ _) (some _ _)
 
 module _ (img : List ℕ) (frame : ℕ) (name : List ℕ) where
   lookup-by : lookup img frame name ≡ by Listed.Refused (lookupTest img frame name) (Listed.Found (foundEntry img frame name))
@@ -144,6 +178,10 @@ module _ (img : List ℕ) (frame : ℕ) (name : List ℕ) where
   unfolding listedNumber listedValues
   lookup-says r = says Listed.Refused listedNumber listedValues (λ n. refl) (λ n. refl) _ refl _ _ r lookup-by
 
+  pub lookup-numbers : lookup img frame name ≡ Listed.Refused 0 → ⊥
+  unfolding listedNumber listedValues
+  lookup-numbers = numbers Listed.Refused listedNumber listedValues (λ n. refl) (λ n. refl) _ refl (some _ _) _ _ lookup-by
+
   place-by : chunkPlace img frame name ≡ by Place.Refused (lookupTest img frame name) (Place.At (chunkPart (foundEntry img frame name)))
   unfolding chunkPlace placed by
   place-by = ap placed lookup-by ∙ go (lookupTest img frame name)
@@ -157,6 +195,10 @@ module _ (img : List ℕ) (frame : ℕ) (name : List ℕ) where
       (r ≡ chunkPlace img frame name) × ((placeNumber r ≡ lookupTest img frame name) × (placeValues r ≡ chunkValues img frame name))
   unfolding placeNumber placeValues
   place-says r = says Place.Refused placeNumber placeValues (λ n. refl) (λ n. refl) _ refl _ _ r place-by
+
+  pub place-numbers : chunkPlace img frame name ≡ Place.Refused 0 → ⊥
+  unfolding placeNumber placeValues
+  place-numbers = numbers Place.Refused placeNumber placeValues (λ n. refl) (λ n. refl) _ refl (some _ _) _ _ place-by
 
   -- the element of the entry that is found
   module _ (k : ℕ) where
@@ -182,3 +224,9 @@ module _ (img : List ℕ) (frame : ℕ) (name : List ℕ) where
     unfolding elementNumber elementValues
     element-says r =
         says Element.Refused elementNumber elementValues (λ n. refl) (λ n. refl) there (no-refusal (found .kind) (bitsOf img found k)) _ _ r element-by
+
+    pub element-numbers : element img frame name k ≡ Element.Refused 0 → ⊥
+    unfolding elementNumber elementValues
+    element-numbers =
+        numbers Element.Refused elementNumber elementValues (λ n. refl) (λ n. refl) there (no-refusal (found .kind) (bitsOf img found k))
+        (has-values (found .kind) (bitsOf img found k)) _ _ element-by

@@ -75,9 +75,9 @@ module _ (img : List ℕ) (place : Place) where
   bytes-none n e = ap (bytesAt img) e
 
 -- the pointer of a part that starts at a place
-pub lies-at : (place : Place) (p : Part) (block offset : ℕ) → place ≡ Place.At p → LiesAt (block, offset) place (block, p .start + offset)
+pub lies-at : (place : Place) (p : Part) (from to : ℕ × ℕ) → place ≡ Place.At p → (to .0 ≡ from .0) × (to .1 ≡ from .1 + p .start) → LiesAt from place to
 unfolding LiesAt
-lies-at place p block offset e = rw e (refl, omega arith)
+lies-at place p from to e h = rw e h
 
 pub lies-anywhere : (place : Place) (n : ℕ) (p q : ℕ × ℕ) → place ≡ Place.Refused n → LiesAt p place q
 unfolding LiesAt

@@ -12,8 +12,10 @@ use gsd_open::name_part;
 use gsd_open::survey_of;
 ghost use mathlib.Core.Path.{_≡_};
 ghost use mathlib.Core.Bool.{_&&_};
+ghost use Prim.Native.Nat.{_+_, _-_, _≤_};
 ghost use lib.ListN.{length};
 ghost use lib.Dec.{eqb};
+ghost use Rattle.gsd_format.specs.Bytes.{part};
 ghost use Rattle.gsd_format.specs.Header.{layoutOf};
 ghost use Rattle.gsd_format.specs.Entries.{entriesOf};
 ghost use Rattle.gsd_format.specs.Opening.{verdict, opening};
@@ -75,18 +77,23 @@ pub fn name(image: &[u8], n: u64) -> Place
     Place::At(name_part(&starts, n as usize))
 }
 
-// The part of the image at a place.
+// The bytes from start up to end, where they lie.
+fn stretch(image: &[u8], start: usize, end: usize) -> &[u8]
+    requires { ⌜ (start ≤ end) × (end ≤ length (now image)) ⌝ }
+    ensures { λ r. ⌜ now r ≡ part (now (image .entry)) start (end - start) ⌝ }
+    ensures itself { λ r. ⌜ (r .ptr .0 ≡ image .entry .ptr .0) × (r .ptr .1 ≡ image .entry .ptr .1 + start) ⌝ }
+{
+    &image[start..end]
+}
+
+// The part of the image at a place; a refusal's is empty.
 fn part_at(image: &[u8], place: Place) -> &[u8]
     requires { ⌜ Inside (now image) place ⌝ }
     ensures { λ r. ⌜ now r ≡ bytesAt (now (image .entry)) place ⌝ }
     ensures itself { λ r. ⌜ LiesAt (image .entry .ptr) place (r .ptr) ⌝ }
 {
     match place {
-        Place::At(p) => {
-            let start = p.start;
-            let end = p.start + p.size;
-            &image[start..end]
-        }
+        Place::At(p) => stretch(image, p.start, p.start + p.size),
         Place::Refused(_) => &image[0..0],
     }
 }

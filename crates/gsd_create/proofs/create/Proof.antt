@@ -40,9 +40,10 @@ same-length c = search needs
 returns-2 : tie.Need-returns-2
 returns-2 c =
     let x = c .before .before .before .before .before .before .before .before .before .before .before .args in
+    let answer = number (c .before .before .before .before .before) in
     let zero : createNumber (x .image .now) (x .application .now) (x .schema .now) (x .slots) (x .segments) ≡ 0 =
-    sym (number (c .before .before .before .before .before)) ∙ c .before .before .before .before .if1 .left in
-    (sym zero, cc (created-made (x .image .now) (x .application .now) (x .schema .now) (x .schema-version) (x .slots) (x .segments) zero))
+    sym answer ∙ c .before .before .before .before .if1 .left in
+    (answer, cc (created-made (x .image .now) (x .application .now) (x .schema .now) (x .schema-version) (x .slots) (x .segments) zero))
 
 pub create-spec : {M : Type 1} → statement M
 create-spec =

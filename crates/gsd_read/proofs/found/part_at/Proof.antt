@@ -1,5 +1,5 @@
 -- The place lies in the image; a refusal has no bytes.
-use mathlib.Core.Path.{sym}
+use mathlib.Core.Path.{sym, _∙_}
 use native.Mathlib.Omega.{arith}
 use borrow.Author.Needs.{needs}
 use Rattle.gsd_read.proofs.Lookups.{inside-at, bytes-at, bytes-none, lies-at, lies-anywhere}
@@ -9,8 +9,14 @@ use Rattle.gsd_read.proofs.found.part_at.Tie as tie
 enum-known-place : tie.Need-enum-known-place
 enum-known-place c = search needs
 
-add-end : tie.Need-add-end
-add-end c = omega (arith, inside-at _ _ _ (c .before .before .place .given .1) (c .before .before .before .before .pre))
+add-stretch : tie.Need-add-stretch
+add-stretch c = omega (arith, inside-at _ _ _ (c .before .before .place .given .1) (c .before .before .before .before .before .pre))
+
+stretch-requires : tie.Need-stretch-requires
+stretch-requires c κs = omega (arith, inside-at _ _ _ (c .before .before .place .given .1) (c .before .before .before .before .before .pre))
+
+enum-told : tie.Need-enum-told
+enum-told c = search needs
 
 sub-result : tie.Need-sub-result
 sub-result c = search needs
@@ -19,22 +25,12 @@ part-result-start : tie.Need-part-result-start
 part-result-start c = search needs
 
 part-result-end : tie.Need-part-result-end
-part-result-end c = omega (arith, inside-at _ _ _ (c .before .before .place .given .1) (c .before .before .before .before .pre))
-
-enum-told : tie.Need-enum-told
-enum-told c = search needs
-
-sub-result-2 : tie.Need-sub-result-2
-sub-result-2 c = search needs
-
-part-result-start-2 : tie.Need-part-result-start-2
-part-result-start-2 c = search needs
-
-part-result-end-2 : tie.Need-part-result-end-2
-part-result-end-2 c = search needs
+part-result-end c = search needs
 
 returns : tie.Need-returns
-returns c = let at = c .before .before .before .place .given .1 in (sym (bytes-at _ _ _ at), lies-at _ _ _ _ at)
+returns c =
+    let at = c .before .before .before .place .given .1 in
+    (c .stretch .ensures .0 ∙ sym (bytes-at _ _ _ at), lies-at _ _ _ _ at (c .stretch .ensures .1))
 
 returns-2 : tie.Need-returns-2
 returns-2 c = let no = c .before .enum-told .given .1 in (sym (bytes-none _ _ _ no), lies-anywhere _ _ _ _ no)
@@ -44,13 +40,11 @@ part-at-spec =
     tie.close
     (tie.spec
     enum-known-place
-    add-end
+    add-stretch
+    stretch-requires
+    enum-told
     sub-result
     part-result-start
     part-result-end
-    enum-told
-    sub-result-2
-    part-result-start-2
-    part-result-end-2
     returns
     returns-2)
