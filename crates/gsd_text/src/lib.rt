@@ -1,4 +1,5 @@
-// The lines of a listing. Each comes with the text that the format's definitions give it.
+// The lines of a listing. Each comes with the text that the format's definitions give it, as the first `size` of 128 bytes;
+// the bytes behind the text are free, and nobody reads them.
 mod put;
 
 ghost use mathlib.Core.Path.{_≡_};
@@ -9,7 +10,7 @@ ghost use Rattle.gsd_format.specs.Ascii.{ascii};
 ghost use Rattle.gsd_format.specs.Listing.{fields, entryLine, countsLine};
 use gsd_format::Entry;
 
-// A line: the first size bytes, its newline among them.
+// A line: the first size bytes, its newline among them. What the bytes behind them are is free.
 pub struct Line {
     pub bytes: [u8; 128],
     pub size: usize,

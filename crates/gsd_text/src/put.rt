@@ -1,4 +1,5 @@
-// Text put into a buffer from a place on; each function answers the place behind it.
+// Text put into a buffer from a place on; each function answers the place behind it. `labelled` leaves free what stands
+// behind that place.
 use gsd_bytes::put_text;
 ghost use mathlib.Core.Path.{_≡_};
 ghost use Prim.Native.Nat.{_+_, _≤_};
