@@ -25,7 +25,7 @@ use Rattle.gsd_append.specs.Matches.{endWord, wordsBehind, HeadsMatch}
 use Rattle.gsd_runs.proofs.Words.{cut-before, cut-behind, place-other, word-number}
 use Rattle.gsd_append.proofs.Octets.{no-octets}
 use Rattle.gsd_append.proofs.RunWords.{number-stores, copied-stores}
-use Rattle.gsd_append.proofs.Makes.{Makes, AnyImage, Always, _⨾_}
+use Rattle.gsd_append.proofs.Makes.{Makes, AnyImage, AnyStore, Always, _⨾_}
 
 -- A text in an image, cut off at its end; the zeros behind it
 
@@ -68,7 +68,7 @@ module _ {x₀ : List ℕ} {v : View} {p : Defined} {h : Heads} (sheet : List �
     same = λ img b.
         let n : ℕ = 4 * (v .layout .slots - length (v .entries)) in
         rw (m .clearIndex) (zero-stores sheet [] 0 (entriesEnd v) n no-octets (λ l. omega arith) .same img tt);
-    final = clear-index {x₀ = x₀} {W = AnyImage} {v = v} (λ y b. tt) .final;
+    final = clear-index {x₀ = x₀} {W = AnyStore} {v = v} (λ a b p q. tt) .final;
   }
 
   -- the word that holds the names' end keeps their bytes; all words behind it are zeros
@@ -77,7 +77,7 @@ module _ {x₀ : List ℕ} {v : View} {p : Defined} {h : Heads} (sheet : List �
   unfolding clearNames
   names-cleared d o even = record {
     same = λ img b. rw (m .keepNames, m .clearNames) ((keep ⨾ clear) .same img b ∙ sym two);
-    final = clear-names {x₀ = x₀} {W = AnyImage} {v = v} (λ y b. tt) d even .final;
+    final = clear-names {x₀ = x₀} {W = AnyStore} {v = v} (λ a b p q. tt) d even .final;
   }
     where
       names : List ℕ

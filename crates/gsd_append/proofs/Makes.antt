@@ -24,6 +24,10 @@ pub record Makes (sheet : List ℕ) (P Q : List ℕ → Type 0) (rs : List Run) 
 abbrev pub AnyImage : List ℕ → Type 0
 AnyImage img = Unit
 
+-- of a phase's stores only what they lead to is wanted here
+abbrev pub AnyStore : List ℕ → List ℕ → Type 0
+AnyStore a b = Unit
+
 -- from every image; and so from those with P, where it is known what the stores lead to
 abbrev pub Always : List ℕ → List Run → List Store → Type 0
 Always sheet rs xs = Makes sheet AnyImage AnyImage rs xs

@@ -38,7 +38,7 @@ use Rattle.gsd_append.specs.Matches.{BodyMatch, EntryMatch}
 use Rattle.gsd_runs.proofs.Words.{over-below, over-inside, over-above}
 use Rattle.gsd_append.proofs.Octets.{text-octets, octets-append, flat-octets, bodies-octets, index-octets}
 use Rattle.gsd_append.proofs.RunWords.{number-stores, body-stores, name-stores}
-use Rattle.gsd_append.proofs.Makes.{Makes, AnyImage, Always, _⨾_, makes-none}
+use Rattle.gsd_append.proofs.Makes.{Makes, AnyImage, AnyStore, Always, _⨾_, makes-none}
 use Rattle.gsd_append.proofs.Blocks.{text-cut}
 
 -- Step 2
@@ -176,7 +176,7 @@ module _ {x₀ : List ℕ} {u : View} {d : ℕ} {t : List ℕ} (sheet : List ℕ
             name-stores sheet (flat (u .names) ++ b) (u .layout .namelist) (octets-append (flat (u .names)) b names (text-octets sheet from b o (w .text)))
             at from until img (omega arith) (λ p x y. name-over img s p (omega arith) (omega arith))
             ∙ ap (λ k. words (flat (u .names) ++ b) (u .layout .namelist) (down (at / 8 * 8) k)) n;
-        final = one-name {x₀ = x₀} {v = u} {d = d} {t = t} b low off even good fits {W = AnyImage} (λ y z. tt) .final;
+        final = one-name {x₀ = x₀} {v = u} {d = d} {t = t} b low off even good fits {W = AnyStore} (λ y z p q. tt) (λ y z p q. tt) .final;
       }
 
 -- the j-th new name of a plan is b, and goes to this place

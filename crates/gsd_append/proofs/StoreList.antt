@@ -28,7 +28,7 @@ use Rattle.gsd_runs.specs.Exec.{steps, storesOf}
 use Rattle.gsd_runs.specs.Runs.{Heads, bodyRun, nameRun, entryRun, tab, block, slots, runsOf}
 use Rattle.gsd_append.specs.Matches.{nameWords, HeadsMatch, NameMatch, Matches}
 use Rattle.gsd_append.proofs.Octets.{text-octets}
-use Rattle.gsd_append.proofs.Makes.{Makes, AnyImage, Always, makes-from, _⨾_}
+use Rattle.gsd_append.proofs.Makes.{Makes, AnyImage, AnyStore, Always, makes-from, _⨾_}
 use Rattle.gsd_append.proofs.Blocks.{lists-cleared, block-moved}
 use Rattle.gsd_append.proofs.RowRuns.{data-stored, NameAt, names-stored, entries-stored}
 
@@ -54,8 +54,8 @@ module _ {x₀ : List ℕ} {v : View} {rs : List Row} {p : Defined} (r : Accepte
       (block-moved sheet (p .namesMove) (v .layout .namelist) (dataEnd p) (nameWords v) (8 * p .segments) (flat (v .names)) 24 (p .segments)
       (names-octets is o) (omega (arith, is .names .few, room-before g .names)) (omega arith) (omega (arith, is .names .few, r .plan .twiceSegments))
       (λ img s. s .base .is .names .each)
-      (names-step {x₀ = x₀} {W = AnyImage} (p .namesMove) (dataEnd p) (p .segments) (room-before g) (g .moreSegments)
-      (names-fit g) (λ y b. tt) (λ y b. tt) .final))
+      (names-step {x₀ = x₀} {W = AnyStore} (p .namesMove) (dataEnd p) (p .segments) (room-before g) (g .moreSegments)
+      (names-fit g) (λ l n p q a b s t. tt) .final))
 
   index-moved : Makes sheet (Stored x₀ p (named v p)) (Stored x₀ p (ready v p)) (slots h) (moveIndex x₀ v p)
   unfolding moveIndex
@@ -73,8 +73,8 @@ module _ {x₀ : List ℕ} {v : View} {rs : List Row} {p : Defined} (r : Accepte
       (omega (arith, is .entries .few, room-before g .index, positions p .0)) (omega arith) (omega (arith, is .entries .few, r .plan .twiceSlots))
       (λ img s k l. s .base .raw k (omega arith) ∙ ap (λ c. getD x₀ (c .index + k) 0) (is .layout)
       ∙ sym (part-at x₀ (v .layout .index) (32 * count) k (omega arith)))
-      (index-step {x₀ = x₀} {W = AnyImage} (p .indexMoves) (namesDone p) (p .slots) (room-names g) (v .layout .index) (ap (λ l. l .index) (is .layout)) inside
-      (g .moreSlots) (g .fits) (λ y b. tt) (λ y b. tt) .final))
+      (index-step {x₀ = x₀} {W = AnyStore} (p .indexMoves) (namesDone p) (p .slots) (room-names g) (v .layout .index) (ap (λ l. l .index) (is .layout)) inside
+      (g .moreSlots) (g .fits) (λ l n p q a b s t. tt) .final))
 
 -- The whole append
 
@@ -100,7 +100,7 @@ module _ {x : List ℕ} {v : View} {p : Defined} (sheet : List ℕ) (r : Accepte
   data-made : Makes sheet (Stage x v (p .start) []) (Stored x p v) (tab (bodyRun c) 0 (c .rows)) (storeData p)
   data-made =
       makes-from (data-stored sheet exact os p (r .plan .body) c (m .bodies) (m .rows))
-      (store-data {x₀ = x} {W = AnyImage} {v = v} (λ y b. tt) p (good .room) (r .evenBody) (data-fits good) .final)
+      (store-data {x₀ = x} {W = AnyStore} {v = v} (λ a b p q. tt) p (good .room) (r .evenBody) (data-fits good) .final)
 
   names-made : Makes sheet (Stored x p (roomy v p)) (Stored x p (named v p)) (tab (nameRun c) 0 (c .fresh)) (storeNames (nameBlock v p) (v .names) (p .fresh))
   names-made =

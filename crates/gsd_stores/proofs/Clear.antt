@@ -14,7 +14,7 @@ use Rattle.gsd_stores.specs.Plan.{Plan}
 use Rattle.gsd_stores.specs.Steps.{clearIndex, clearNames, storeData}
 use Rattle.gsd_stores.proofs.Stores.{between, over-off}
 use Rattle.gsd_stores.proofs.Phases.{Phase}
-use Rattle.gsd_stores.proofs.View.{Is, Free, free-index, free-names, free-behind, Room, Base, Shows, IndexClear, Stage, phase-quiet}
+use Rattle.gsd_stores.proofs.View.{Is, Free, free-index, free-names, free-behind, Room, Base, Passes, IndexClear, Stage, phase-quiet}
 
 -- where step 1 writes, the byte stands there already or its place is free
 cleared-index : {v : View} {x : List ℕ} → Is x v → (p : ℕ) → entriesEnd v ≤ p → p < indexEnd (v .layout) → (0 ≡ getD x p 0) ⊎ Free v p
@@ -36,11 +36,11 @@ cleared-names {v} {x} h p a b = go (decLt p (namesEnd v)) (decLt (namesEnd v) p)
     go (no c) (no d) =
         inl (List·getD-eq-default (flat (v .names)) 0 (omega arith) ∙ sym (h .names .closed (omega arith)) ∙ ap (λ i. getD x i 0) (omega arith))
 
-module _ {x₀ : List ℕ} {W : List ℕ → Type 0} {v : View} (shows : Shows x₀ W v) where
+module _ {x₀ : List ℕ} {W : List ℕ → List ℕ → Type 0} {v : View} (same : Passes x₀ W v v) where
   pub clear-index : Phase (Base x₀ v) (λ x. Base x₀ v x × IndexClear v x) W (clearIndex v)
   unfolding clearIndex
   clear-index =
-      phase-quiet shows [] 0 (entriesEnd v) (4 * (v .layout .slots - length (v .entries))) (omega arith) (λ x b. b)
+      phase-quiet same [] 0 (entriesEnd v) (4 * (v .layout .slots - length (v .entries))) (omega arith) (λ x b. b) (λ x b. b .0)
       (λ x b. omega (arith, b .is .entries .few, b .is .blocks .indexHigh))
       (λ x b p l u. cleared-index (b .is) p l (omega (arith, b .is .entries .few)))
       (λ x b y o k. (k, λ p l u. o .inside p l (omega (arith, b .is .entries .few))))
@@ -49,7 +49,7 @@ module _ {x₀ : List ℕ} {W : List ℕ → Type 0} {v : View} (shows : Shows x
   unfolding clearNames
   clear-names d even =
       let first : ℕ = namesEnd v / 8 * 8 in
-      phase-quiet shows (flat (v .names)) (v .layout .namelist) first ((namelistEnd (v .layout) - first) / 8) (omega arith) (λ x b. b .0)
+      phase-quiet same (flat (v .names)) (v .layout .namelist) first ((namelistEnd (v .layout) - first) / 8) (omega arith) (λ x b. b .0) (λ x s. s .base)
       (λ x b. omega (arith, b .0 .is .names .few, b .0 .is .blocks .namelistHigh))
       (λ x b p l u. cleared-names (b .0 .is) p (omega arith) (omega (arith, b .0 .is .names .few)))
       (λ x b y o k. record {
@@ -63,7 +63,7 @@ module _ {x₀ : List ℕ} {W : List ℕ → Type 0} {v : View} (shows : Shows x
       Phase (Stage x₀ v (p .start) []) (Stage x₀ v (p .start) (p .body)) W (storeData p)
   unfolding storeData
   store-data p r even fits =
-      phase-quiet shows (p .body) (p .start) (p .start) (length (p .body) / 8) (omega arith) (λ x s. s .base)
+      phase-quiet same (p .body) (p .start) (p .start) (length (p .body) / 8) (omega arith) (λ x s. s .base) (λ x s. s .base)
       (λ x s. omega arith)
       (λ x s i l u. inr (free-behind (s .base .is) r i l))
       (λ x s y o k. record {

@@ -1,7 +1,8 @@
--- What one image keeps of another: entries found stay found with their bytes, and nothing appears in older frames.
+-- What one image keeps of another: entries found stay found with their bytes, nothing appears in older frames, and names stay
+-- listed.
 use Prim.Native.Nat.{ℕ, _+_, _*_, _≤_, _<_}
-use mathlib.Core.Path.{_≡_, refl, sym, _∙_}
-use mathlib.Core.Logic.{⊎-elim}
+use mathlib.Core.Path.{_≡_, refl, _∙_}
+use mathlib.Core.Logic.{inr, ⊎-elim}
 use mathlib.Core.List.{List}
 use native.Mathlib.Omega.{arith}
 use lib.ListN.{length, getD}
@@ -14,7 +15,8 @@ use Rattle.gsd_format.specs.Entries.{entriesOf}
 use Rattle.gsd_format.specs.Opening.{verdict}
 use Rattle.gsd_format.specs.Lookup.{lookup, lookupIn, chunkOf}
 use Rattle.gsd_format.specs.Answers.{listedNumber}
-use Rattle.gsd_format.proofs.Lookup.{opened-lookup, found-opens, look-found, look-absent}
+use Rattle.gsd_format.proofs.Ids.{Has}
+use Rattle.gsd_format.proofs.Lookup.{opened-lookup, look-41, look-42, look-absent}
 use Rattle.gsd_stores.specs.Sheet.{Row}
 use Rattle.gsd_stores.specs.Runs.{frames}
 use Rattle.gsd_stores.specs.Demand3.{Absent, Recorded, Complete, noRow}
@@ -25,6 +27,7 @@ pub record Keep (a b : List ℕ) : Type 0 where
   pub kept : (frame : ℕ) (name : List ℕ) (e : Entry) → lookup a frame name ≡ Listed.Found e → lookup b frame name ≡ Listed.Found e
   pub back : (frame : ℕ) (name : List ℕ) (e : Entry) → frame < frames a → lookup b frame name ≡ Listed.Found e → lookup a frame name ≡ Listed.Found e
   pub chunk : (frame : ℕ) (name : List ℕ) (e : Entry) → lookup a frame name ≡ Listed.Found e → chunkOf b e ≡ chunkOf a e
+  pub named : (name : List ℕ) → Has name (namesOf a) → Has name (namesOf b)
   pub many : length (entriesOf a) ≤ length (entriesOf b)
   pub bytes : (i : ℕ) → i < length (entriesOf a) → part b (layoutOf b .index + 32 * i) 32 ≡ part a (layoutOf a .index + 32 * i) 32
 
@@ -34,6 +37,7 @@ keep-refl a = record {
   kept = λ f n e h. h;
   back = λ f n e l h. h;
   chunk = λ f n e h. refl;
+  named = λ n h. h;
   many = omega arith;
   bytes = λ i l. refl;
 }
@@ -44,24 +48,9 @@ keep-trans a b c p q = record {
   kept = λ f n e h. q .kept f n e (p .kept f n e h);
   back = λ f n e l h. p .back f n e l (q .back f n e (omega (arith, p .grow)) h);
   chunk = λ f n e h. q .chunk f n e (p .kept f n e h) ∙ p .chunk f n e h;
+  named = λ n h. q .named n (p .named n h);
   many = omega (arith, p .many, q .many);
   bytes = λ i l. q .bytes i (omega (arith, p .many)) ∙ p .bytes i l;
-}
-
--- what is found lies in a frame that is there
-pub found-frame : (a : List ℕ) (frame : ℕ) (name : List ℕ) (e : Entry) → lookup a frame name ≡ Listed.Found e → frame < frames a
-found-frame a frame name e h =
-    look-found (entriesOf a) (namesOf a) frame name e .0 (sym (opened-lookup a (found-opens a frame name e h) frame name) ∙ h) .0
-
--- two images with equally many frames and entries keep each other
-pub keep-flip : (a b : List ℕ) → Keep a b → frames b ≤ frames a → length (entriesOf b) ≤ length (entriesOf a) → Keep b a
-keep-flip a b p f m = record {
-  grow = f;
-  kept = λ g n e h. p .back g n e (omega (arith, found-frame b g n e h)) h;
-  back = λ g n e l h. p .kept g n e h;
-  chunk = λ g n e h. sym (p .chunk g n e (p .back g n e (omega (arith, found-frame b g n e h)) h));
-  many = m;
-  bytes = λ i l. sym (p .bytes i (omega arith));
 }
 
 number-found : (l : Listed) (e : Entry) → l ≡ Listed.Found e → listedNumber l ≡ 0
@@ -83,6 +72,15 @@ none-absent a frame name o l h =
 pub absent-kept : (a b : List ℕ) → Keep a b → verdict b ≡ 0 → (frame : ℕ) (name : List ℕ) → frame < frames a → Absent a frame name → Absent b frame name
 absent-kept a b p o frame name l h =
     none-absent b frame name o (omega (arith, p .grow)) (λ e g. absent-none a frame name e h (p .back frame name e l g))
+
+-- and a name that is listed stays listed: 42 never becomes 41
+pub named-kept : (a b : List ℕ) → Keep a b → verdict a ≡ 0 → verdict b ≡ 0 → (frame : ℕ) (name : List ℕ) →
+    listedNumber (lookup a frame name) ≡ 42 → listedNumber (lookup b frame name) ≡ 42
+named-kept a b p oa ob frame name h =
+    let (there, listed, lacks) = look-42 (entriesOf a) (namesOf a) frame name .0 (rw (opened-lookup a oa frame name) at h) in
+    ⊎-elim
+    (λ e. absurd (omega (arith, p .named name listed, look-41 (entriesOf b) (namesOf b) frame name .0 (rw (opened-lookup b ob frame name) at e) .1)))
+    (λ e. e) (absent-kept a b p ob frame name there (inr h))
 
 pub recorded-kept : (a b : List ℕ) → Keep a b → (frame : ℕ) (r : Row) → Recorded a frame r → Recorded b frame r
 recorded-kept a b p frame r h = record {

@@ -1,12 +1,12 @@
--- The moments of one accepted append: before the last store nothing that is shown has changed but for new names; after it there is
--- one frame more.
-use Prim.Native.Nat.{ℕ, _+_, _≤_}
+-- The moments of one accepted append: each store keeps all that was shown, those before the last change nothing but the names, and
+-- after the last there is one frame more.
+use Prim.Native.Nat.{ℕ, _+_, _-_, _≤_}
 use mathlib.Core.Path.{_≡_, refl, sym, _∙_, ap}
-use mathlib.Core.List.{List, [], _++_, append-nil}
+use mathlib.Core.List.{List, [], _++_, append-assoc, append-nil}
 use native.Mathlib.Omega.{arith}
-use lib.ListN.{length, getD, take, length-append, length-take}
-use lib.Seq.{take-append-add, getD-append-add}
-use Rattle.gsd_format.specs.Entries.{entriesOf, framesOf}
+use lib.ListN.{length, take, drop, length-append, length-take}
+use lib.Seq.{take-length, take-add, take-append-add, getD-append-add}
+use Rattle.gsd_format.specs.Entries.{framesOf}
 use Rattle.gsd_format.specs.Opening.{verdict, mostNames}
 use Rattle.gsd_format.specs.Lookup.{none}
 use Rattle.gsd_format.proofs.Ids.{Distinct, distinct-take}
@@ -23,11 +23,10 @@ use Rattle.gsd_stores.proofs.Good.{Good, ready as readyView}
 use Rattle.gsd_stores.proofs.Plan.{EndOfUse, positions}
 use Rattle.gsd_stores.proofs.Valid.{Valid, Ready, ready}
 use Rattle.gsd_stores.proofs.NewEntries.{Final}
-use Rattle.gsd_stores.proofs.Whole.{AllShow, whole-append}
-use Rattle.gsd_stores.proofs.Keep.{Keep, keep-flip}
+use Rattle.gsd_stores.proofs.Whole.{SoFar, AllPass, whole-append}
 use Rattle.gsd_stores.proofs.Shown.{Legal, shown-opens, shown-entries, opens-shown, opens-legal, extends-keep}
 use Rattle.gsd_stores.proofs.Complete.{frame-complete}
-use Rattle.gsd_stores.proofs.Runs.{Unchanged, Grown, Accepted}
+use Rattle.gsd_stores.proofs.Runs.{Stored, Grown, Accepted}
 
 pub stores-are : (x s : List ℕ) → appendTest x s ≡ 0 → storesFor x s ≡ stepsOf x (viewOf x) (planOf (viewOf x) (rowsOf s))
 unfolding storesFor storeList
@@ -84,43 +83,74 @@ module _ (x : List ℕ) (rs : List Row) (ok : Valid x rs) where
       let e : take n (v .names ++ p .fresh) ≡ v .names ++ take j (p .fresh) = take-append-add (v .names) (p .fresh) j in
       (rw (← e) (simp length-take (omega (arith, r .fewNames))), rw e at (distinct-take n (v .names ++ p .fresh) (r .distinct)))
 
-  shows-same : AllShow x (Unchanged x) v p
-  shows-same u j len es ns y b =
-      let lu : Legal u = record { few = rw ns (names-some j .0); distinct = rw ns (names-some j .1); ordered = rw es (legal .ordered) } in
-      let oy : verdict y ≡ 0 = shown-opens (b .is) lu in
-      let k : Keep x y = extends-keep x y v u [] (take j (p .fresh)) (record {
-        from = begins;
-        to = b .is;
-        entries = es ∙ sym (append-nil (v .entries));
-        names = ns;
-        frames = rw append-nil (omega arith);
-        newer = λ i l. absurd (omega arith);
-        long = is-long (b .is) ∙ len ∙ sym (is-long begins);
-        chunks = rw es at (b .chunks);
-        raw = λ i l. b .raw i (rw es l) ∙ ap (λ c. getD x (c .index + i) 0) (begins .layout);
-      }) (ok .opens) oy in
-      let q : entriesOf y ≡ entriesOf x = shown-entries (b .is) ∙ es ∙ sym (shown-entries begins) in
-      record { opens = oy; keep = k; flip = keep-flip x y k (omega (arith, ap framesOf q)) (omega (arith, ap length q)) }
+  some-opens : {u : View} {j : ℕ} {a : List ℕ} → SoFar v p j u → Is a u → verdict a ≡ 0
+  some-opens {j = j} s h = shown-opens h (record {
+    few = rw (s .names) (names-some j .0);
+    distinct = rw (s .names) (names-some j .1);
+    ordered = rw (s .entries) (legal .ordered);
+  })
+
+  some-frames : {u : View} {j : ℕ} {a : List ℕ} → SoFar v p j u → Is a u → frames a ≡ frames x
+  some-frames s h = ap framesOf (shown-entries h ∙ s .entries ∙ sym (shown-entries begins))
+
+  -- a store that adds names or nothing
+  some-pass : AllPass x (Stored x) v p
+  some-pass u w i j l su sw a b ha hb =
+      let ms : List (List ℕ) = take (j - i) (drop i (p .fresh)) in
+      let more : take j (p .fresh) ≡ take i (p .fresh) ++ ms = ap (λ n. take n (p .fresh)) (let e : j ≡ i + (j - i) = omega arith in e) ∙ take-add i (j - i) (p .fresh) in
+      let es : w .entries ≡ u .entries = sw .entries ∙ sym (su .entries) in
+      let oa : verdict a ≡ 0 = some-opens su (ha .is) in
+      record {
+        opens = oa;
+        same = some-frames su (ha .is);
+        keep = extends-keep a b u w [] ms (record {
+          from = ha .is;
+          to = hb .is;
+          entries = es ∙ sym (append-nil (u .entries));
+          names = sw .names ∙ ap (λ ns. v .names ++ ns) more ∙ sym (append-assoc (v .names) (take i (p .fresh)) ms) ∙ ap (λ ns. ns ++ ms) (sym (su .names));
+          frames = rw append-nil (omega arith);
+          newer = λ k m. absurd (omega arith);
+          long = is-long (hb .is) ∙ sw .len ∙ sym (su .len) ∙ sym (is-long (ha .is));
+          chunks = λ k m n q. (rw es at (hb .chunks)) k m n q ∙ sym (ha .chunks k m n q);
+          raw = λ k m. hb .raw k (rw es m) ∙ sym (ha .raw k m);
+        }) oa (some-opens sw (hb .is));
+      }
+
+  -- the view before the last store
+  all-names : SoFar v p (length (p .fresh)) (readyView v p)
+  all-names = record { len = refl; entries = refl; names = ap (λ ns. v .names ++ ns) (sym (take-length (p .fresh))) }
+
+  final-opens : (y : List ℕ) → Final x (readyView v p) (p .entries) (p .start) (p .body) y → verdict y ≡ 0
+  final-opens y f = shown-opens (f .is) (record { few = r .fewNames; distinct = r .distinct; ordered = r .ordered })
+
+  -- the last store
+  last-pass : (a b : List ℕ) → Base x (readyView v p) a → Final x (readyView v p) (p .entries) (p .start) (p .body) b → Stored x a b
+  last-pass a b ha f =
+      let oa : verdict a ≡ 0 = some-opens all-names (ha .is) in
+      record {
+        opens = oa;
+        same = some-frames all-names (ha .is);
+        keep = extends-keep a b (readyView v p) (withEntries (readyView v p) (v .entries ++ p .entries)) (p .entries) [] (record {
+          from = ha .is;
+          to = f .is;
+          entries = refl;
+          names = sym (append-nil (v .names ++ p .fresh));
+          frames = omega (arith, r .frames);
+          newer = λ i l. omega (arith, r .new i l .frame);
+          long = is-long (f .is) ∙ sym (is-long (ha .is));
+          chunks = λ k m n q. f .chunks k m n q ∙ sym (ha .chunks k m n q);
+          raw = λ k m. f .raw k m ∙ sym (ha .raw k m);
+        }) oa (final-opens b f);
+      }
 
   grows : (y : List ℕ) → Final x (readyView v p) (p .entries) (p .start) (p .body) y → Grown x rs y
   grows y f =
       let w : View = withEntries (readyView v p) (v .entries ++ p .entries) in
-      let oy : verdict y ≡ 0 = shown-opens (f .is) (record { few = r .fewNames; distinct = r .distinct; ordered = r .ordered }) in
+      let oy : verdict y ≡ 0 = final-opens y f in
       let before : frames x ≡ framesOf (v .entries) = ap framesOf (shown-entries begins) in
       let long : length y ≡ v .layout .len = is-long (f .is) in
       record {
         opens = oy;
-        keep = extends-keep x y v w (p .entries) (p .fresh) (record {
-          from = begins;
-          to = f .is;
-          entries = refl;
-          names = refl;
-          frames = omega (arith, r .frames);
-          newer = λ i l. omega (arith, r .new i l .frame);
-          long = long ∙ sym (is-long begins);
-          chunks = f .chunks;
-          raw = λ i l. f .raw i l ∙ ap (λ c. getD x (c .index + i) 0) (begins .layout);
-        }) (ok .opens) oy;
         more = ap framesOf (shown-entries (f .is)) ∙ r .frames ∙ ap (λ n. n + 1) (sym before);
         complete = rw before (frame-complete v rs p y w (record {
           is = f .is;
@@ -135,10 +165,10 @@ module _ (x : List ℕ) (rs : List Row) (ok : Valid x rs) where
 -- every moment of an accepted append
 pub moments : (x s : List ℕ) → appendTest x s ≡ 0 → Valid x (rowsOf s) → Accepted x s
 moments x s h ok =
-    let stores : Phase (Base x (viewOf x)) (Final x _ _ _ _) (Unchanged x) (stepsOf x (viewOf x) (planOf (viewOf x) (rowsOf s)))
-    = whole-append (ready-good _ _ _ (r x (rowsOf s) ok)) (begins x (rowsOf s) ok) (shows-same x (rowsOf s) ok) in
+    let stores : Phase (Base x (viewOf x)) (Final x _ _ _ _) (Stored x) (stepsOf x (viewOf x) (planOf (viewOf x) (rowsOf s)))
+    = whole-append (ready-good _ _ _ (r x (rowsOf s) ok)) (begins x (rowsOf s) ok) (some-pass x (rowsOf s) ok) (last-pass x (rowsOf s) ok) in
     let start : Base x (viewOf x) x = base-start (begins x (rowsOf s) ok) in
     record {
-      before = λ k l. rw (stores-are x s h) (stores .during x start k (rw (stores-are x s h) at l));
+      each = λ k l. rw (stores-are x s h) (stores .during x start k (rw (stores-are x s h) at l));
       last = rw (stores-are x s h) (grows x (rowsOf s) ok _ (stores .final x start));
     }

@@ -17,7 +17,7 @@ use Rattle.gsd_stores.specs.View.{View}
 use Rattle.gsd_stores.specs.Steps.{moved}
 use Rattle.gsd_stores.proofs.Stores.{Over, over-off}
 use Rattle.gsd_stores.proofs.Phases.{Phase, phase-nil, phase-one, _⨾_}
-use Rattle.gsd_stores.proofs.View.{indexLaid, namesLaid, withIndexBlock, withNameBlock, is-long, free-behind, Room, room-laid, Shows, Stage, stage-behind, phase-quiet}
+use Rattle.gsd_stores.proofs.View.{indexLaid, namesLaid, withLayout, withIndexBlock, withNameBlock, is-long, free-behind, Room, room-laid, Base, Quiet, Stage, stage-behind, phase-quiet}
 use Rattle.gsd_stores.proofs.Blocks.{Filled, filled-text, Block, theIndex, theNames, unitOf, startIn, countIn, listIn}
 use Rattle.gsd_stores.proofs.Blocks.{Housed, housed-kept, stage-housed, Relaid, restage}
 
@@ -32,7 +32,12 @@ laid theNames = namesLaid
 
 -- v with the block elsewhere
 abbrev pub withBlock : Block → View → ℕ → ℕ → View
-withBlock k v b n = record { layout = laid k (v .layout) b n; entries = v .entries; names = v .names }
+withBlock k v b n = withLayout v (laid k (v .layout) b n)
+
+-- which changes no length
+laid-long : (k : Block) (l : Layout) (b n : ℕ) → laid k l b n .len ≡ l .len
+laid-long theIndex l b n = refl
+laid-long theNames l b n = refl
 
 -- The header
 
@@ -159,22 +164,29 @@ module _ {x₀ : List ℕ} {v : View} {d : ℕ} {t : List ℕ} (k : Block) (b n 
       = housed-moved k b s n stage room low high fits (rw (lists (p .old) stage) (p .copied .filled)) in
       restage (room .low) (room .offNames) (relaid k stage room new (p .headed)) stage
 
+  -- the layout between the two words of the header
+  abbrev half : Layout
+  half = laid k (v .layout) b (countIn k (v .layout))
+
   -- the image shows v while the block is copied, then the new place with the old count, and at last the new count
-  pub move-block : {W : List ℕ → Type 0} → Shows x₀ W v → Shows x₀ W (withBlock k v b (countIn k (v .layout))) →
+  pub move-block : {W : List ℕ → List ℕ → Type 0} → Quiet x₀ W v →
       Phase (Stage x₀ v d t) (Stage x₀ (withBlock k v b n) d t) W (moved true b (wordsIn k * n) text (headerPlace k) n)
   unfolding moved
-  move-block {W} before between = copy ⨾ start ⨾ count
+  move-block {W} quiet = copy ⨾ start ⨾ count
     where
       copy : Phase (Stage x₀ v d t) (Copied x₀ v d t b (unitOf k * n) text) W (words text b (up b (wordsIn k * n)))
       copy =
-          phase-quiet before text b b (wordsIn k * n) (omega arith) (λ x s. s .base) (λ x s. omega (arith, unit-words k n))
+          phase-quiet (quiet (v .layout) (v .layout) refl refl) text b b (wordsIn k * n) (omega arith) (λ x s. s .base) (λ x c. c .stage .base)
+          (λ x s. omega (arith, unit-words k n))
           (λ x s p l m. inr (free-behind (s .base .is) room p l))
           (λ x s y o q. record { stage = stage-behind room (o .long) (o .below) s; filled = λ p l m. o .inside p l (omega (arith, unit-words k n)) })
 
       start : Phase (Copied x₀ v d t b (unitOf k * n) text) (Placed x₀ v d t k b n text (countIn k (v .layout))) W
           (words (leBytes 8 b) (headerPlace k) (up (headerPlace k) 1))
       start =
-          phase-one (leBytes 8 b) (headerPlace k) (λ x c. omega (arith, in-layout k)) (λ x c. before x (c .stage .base))
+          phase-one {M = Base x₀ v} (quiet (v .layout) (v .layout) refl refl)
+          (λ y z s p. quiet (v .layout) half refl (laid-long k (v .layout) b (countIn k (v .layout))) y z s (placed-stage (omega arith) more p .base))
+          (leBytes 8 b) (headerPlace k) (λ x c. omega (arith, in-layout k)) (λ x c. c .stage .base)
           (λ x c y o. record {
             old = x;
             copied = c;
@@ -184,7 +196,10 @@ module _ {x₀ : List ℕ} {v : View} {d : ℕ} {t : List ℕ} (k : Block) (b n 
       count : Phase (Placed x₀ v d t k b n text (countIn k (v .layout))) (Stage x₀ (withBlock k v b n) d t) W
           (words (leBytes 8 n) (headerPlace k + 8) (up (headerPlace k + 8) 1))
       count =
-          phase-one (leBytes 8 n) (headerPlace k + 8) (λ x p. omega (arith, in-layout k)) (λ x p. between x (placed-stage (omega arith) more p .base))
+          let short : half .len ≡ v .layout .len = laid-long k (v .layout) b (countIn k (v .layout)) in
+          phase-one {M = Base x₀ (withLayout v half)} (quiet half half short short)
+          (λ y z s e. quiet half (laid k (v .layout) b n) short (laid-long k (v .layout) b n) y z s (e .base))
+          (leBytes 8 n) (headerPlace k + 8) (λ x p. omega (arith, in-layout k)) (λ x p. placed-stage (omega arith) more p .base)
           (λ x p y o. placed-stage more (omega arith) (record {
             old = p .old;
             copied = p .copied;
@@ -201,13 +216,13 @@ block-stays : (k : Block) (v : View) → withBlock k v (startIn k (v .layout)) (
 block-stays theIndex v = refl
 block-stays theNames v = refl
 
-pub move-step : {x₀ : List ℕ} {W : List ℕ → Type 0} {v : View} {d : ℕ} {t : List ℕ} (k : Block) (flag : Bool) (b n : ℕ) (text : List ℕ) →
+pub move-step : {x₀ : List ℕ} {W : List ℕ → List ℕ → Type 0} {v : View} {d : ℕ} {t : List ℕ} (k : Block) (flag : Bool) (b n : ℕ) (text : List ℕ) →
     Room v d (length t) b → countIn k (v .layout) ≤ cond flag n (countIn k (v .layout)) → cond flag (b + unitOf k * n) b ≤ v .layout .len →
-    ((x : List ℕ) → Stage x₀ v d t x → listIn k x v ≡ text) → Shows x₀ W v → Shows x₀ W (withBlock k v b (countIn k (v .layout))) →
+    ((x : List ℕ) → Stage x₀ v d t x → listIn k x v ≡ text) → Quiet x₀ W v →
     Phase (Stage x₀ v d t) (Stage x₀ (ifMoved k flag v b n) d t) W (moved flag b (wordsIn k * n) text (headerPlace k) n)
 unfolding moved
-move-step k true b n text room more fits lists before between = move-block k b n text room more fits lists before between
-move-step {v} k false b n text room more fits lists before between = rw (block-stays k v) phase-nil
+move-step k true b n text room more fits lists quiet = move-block k b n text room more fits lists quiet
+move-step {v} k false b n text room more fits lists quiet = rw (block-stays k v) phase-nil
 
 -- and the room behind it
 pub room-step : {v : View} {d m : ℕ} (k : Block) (flag : Bool) (b n : ℕ) → Room v d m b → Room (ifMoved k flag v b n) d m (cond flag (b + unitOf k * n) b)
@@ -217,17 +232,15 @@ room-step {v} theIndex true b n r =
 room-step {v} theNames true b n r =
     room-laid r (laid theNames (v .layout) b n) (v .names) (b + 64 * n) (omega arith) (omega arith) (omega arith) (r .offIndex) (λ p c e f g. omega arith)
 
-module _ {x₀ : List ℕ} {W : List ℕ → Type 0} {v : View} {d : ℕ} {t : List ℕ} (flag : Bool) (b n : ℕ) (room : Room v d (length t) b) where
-  pub names-step : v .layout .segments ≤ cond flag n (v .layout .segments) → cond flag (b + 64 * n) b ≤ v .layout .len →
-      Shows x₀ W v → Shows x₀ W (withNameBlock v b (v .layout .segments)) →
+module _ {x₀ : List ℕ} {W : List ℕ → List ℕ → Type 0} {v : View} {d : ℕ} {t : List ℕ} (flag : Bool) (b n : ℕ) (room : Room v d (length t) b) where
+  pub names-step : v .layout .segments ≤ cond flag n (v .layout .segments) → cond flag (b + 64 * n) b ≤ v .layout .len → Quiet x₀ W v →
       Phase (Stage x₀ v d t) (Stage x₀ (withNameBlock v (cond flag b (v .layout .namelist)) (cond flag n (v .layout .segments))) d t) W
       (moved flag b (8 * n) (flat (v .names)) 24 n)
   names-step more fits = move-step theNames flag b n (flat (v .names)) room more fits (λ x s. refl)
 
   -- the entries' bytes are those of the beginning, where the index block began at a
   pub index-step : (a : ℕ) → layoutOf x₀ .index ≡ a → a + 32 * length (v .entries) ≤ length x₀ →
-      v .layout .slots ≤ cond flag n (v .layout .slots) → cond flag (b + 32 * n) b ≤ v .layout .len →
-      Shows x₀ W v → Shows x₀ W (withIndexBlock v b (v .layout .slots)) →
+      v .layout .slots ≤ cond flag n (v .layout .slots) → cond flag (b + 32 * n) b ≤ v .layout .len → Quiet x₀ W v →
       Phase (Stage x₀ v d t) (Stage x₀ (withIndexBlock v (cond flag b (v .layout .index)) (cond flag n (v .layout .slots))) d t) W
       (moved flag b (4 * n) (part x₀ a (32 * length (v .entries))) 8 n)
   index-step a e l more fits =

@@ -21,7 +21,7 @@ use Rattle.gsd_stores.specs.View.{View, indexEnd, entriesEnd, namesEnd}
 use Rattle.gsd_stores.specs.Steps.{entryBytes, indexBytes, storeEntries}
 use Rattle.gsd_stores.proofs.Stores.{Over, between, over-off}
 use Rattle.gsd_stores.proofs.Phases.{Phase, Begun, phase-slots}
-use Rattle.gsd_stores.proofs.View.{withEntries, Is, is-long, Keeps, free-index, Chunks, base-kept, Shows, IndexClear, Stage}
+use Rattle.gsd_stores.proofs.View.{withEntries, Is, is-long, Keeps, free-index, Chunks, Base, base-kept, Passes, IndexClear, Stage}
 
 -- The bytes of entries
 
@@ -136,14 +136,15 @@ module _ (v : View) {x y : List ℕ} (new : List Entry) (few : length (v .entrie
       end : ℕ
       end = entriesEnd v + 32 * length new + 16
 
-pub store-entries : {x₀ : List ℕ} {W : List ℕ → Type 0} {v : View} → Shows x₀ W v → (new : List Entry) (d : ℕ) (t : List ℕ) →
+pub store-entries : {x₀ : List ℕ} {W : List ℕ → List ℕ → Type 0} {v : View} (new : List Entry) (d : ℕ) (t : List ℕ) →
+    Passes x₀ W v v → ((a b : List ℕ) → Base x₀ v a → Final x₀ v new d t b → W a b) →
     length (v .entries) + length new ≤ v .layout .slots → AllSound (v .layout) (length (v .names)) new → ((i : ℕ) → i < length new → Fits (getD new i none)) →
     Apart d (length t) (v .layout .index) (32 * v .layout .slots) → Phase (Stage x₀ v d t) (Final x₀ v new d t) W (storeEntries (entriesEnd v) new)
 unfolding storeEntries
-store-entries {v} shows new d t few sound exact off =
-    phase-slots (indexBytes new) (entriesEnd v) (entriesEnd v) (length new) (omega arith)
+store-entries {x₀} {v = v} new d t same last few sound exact off =
+    phase-slots {M = Base x₀ v} same last (indexBytes new) (entriesEnd v) (entriesEnd v) (length new) (omega arith)
     (λ x s. omega (arith, s .base .is .blocks .indexHigh, is-long (s .base .is)))
-    (λ x s y b. shows y (base-kept (begun-keeps (length new) few (s .base .is) b) (s .base)))
+    (λ x s y b. base-kept (begun-keeps (length new) few (s .base .is) b) (s .base))
     (λ x s y o. record {
       is = entries-listed v new few o (s .base .is) (s .index) sound exact;
       raw = λ k l. o .below (v .layout .index + k) (omega arith) ∙ s .base .raw k l;

@@ -17,7 +17,7 @@ use Rattle.gsd_stores.specs.View.{View, namesEnd, namelistEnd}
 use Rattle.gsd_stores.specs.Steps.{storeName, storeNames}
 use Rattle.gsd_stores.proofs.Stores.{Over, over-off}
 use Rattle.gsd_stores.proofs.Phases.{Phase, phase-nil, phase-down, _⨾_}
-use Rattle.gsd_stores.proofs.View.{withNames, is-long, free-names, keeps-over, base-kept, Shows, Stage}
+use Rattle.gsd_stores.proofs.View.{withNames, is-long, free-names, keeps-over, Base, base-kept, Passes, Stage}
 use Rattle.gsd_stores.proofs.Blocks.{Filled, theIndex, theNames, housed-kept, stage-housed, Relaid, restage}
 
 -- The block's text
@@ -84,29 +84,36 @@ module _ {x₀ : List ℕ} {v : View} {d : ℕ} {t : List ℕ} (b : List ℕ) (l
       }
 
   -- before it the list is as it was
-  pub one-name : {W : List ℕ → Type 0} → Shows x₀ W v →
+  pub one-name : {W : List ℕ → List ℕ → Type 0} → Passes x₀ W v v → Passes x₀ W v (withNames v (v .names ++ b ∷ [])) →
       Phase (Stage x₀ v d t) (Stage x₀ (withNames v (v .names ++ b ∷ [])) d t) W (storeName (v .layout .namelist) (flat (v .names)) b)
   unfolding storeName
-  one-name shows =
+  one-name same more =
       let first : ℕ = namesEnd v in
       let count : ℕ = (first + length b - 1) / 8 - first / 8 + 1 in
       let w = name-words (v .layout .namelist) (length (flat (v .names))) (length b) (v .layout .segments) even (name .some) (omega arith) in
-      phase-down (flat (v .names) ++ b) (v .layout .namelist) (first / 8 * 8) count (w .0) (λ x s. omega (arith, is-long (s .base .is)))
-      (λ x s m l y o. shows y (base-kept (keeps-over o (λ p c e. inr (free-names (s .base .is) p (omega arith) (omega arith)))) (s .base)))
+      phase-down {M = Base x₀ v} same (λ y z h s. more y z h (s .base))
+      (flat (v .names) ++ b) (v .layout .namelist) (first / 8 * 8) count (w .0) (λ x s. omega (arith, is-long (s .base .is)))
+      (λ x s m l y o. base-kept (keeps-over o (λ p c e. inr (free-names (s .base .is) p (omega arith) (omega arith)))) (s .base))
       (λ x s y o. named-stage s o (w .0) (omega arith) (w .1) (w .2))
 
 -- All of them
 
+-- W from the names so far to themselves or more
+abbrev pub NamesPass : List ℕ → (List ℕ → List ℕ → Type 0) → View → List (List ℕ) → Type 0
+NamesPass x₀ W v bs =
+    (ns ms : List (List ℕ)) (i j : ℕ) → i ≤ j → ns ≡ v .names ++ take i bs → ms ≡ v .names ++ take j bs → Passes x₀ W (withNames v ns) (withNames v ms)
+
 -- the list grows name by name
-pub all-names : {x₀ : List ℕ} {W : List ℕ → Type 0} (v : View) {d : ℕ} {t : List ℕ} (bs : List (List ℕ)) → headerSize ≤ d →
+pub all-names : {x₀ : List ℕ} {W : List ℕ → List ℕ → Type 0} (v : View) {d : ℕ} {t : List ℕ} (bs : List (List ℕ)) → headerSize ≤ d →
     Apart d (length t) (v .layout .namelist) (64 * v .layout .segments) → v .layout .namelist % 8 ≡ 0 → Each Named bs →
-    length (flat (v .names)) + length (flat bs) ≤ 64 * v .layout .segments →
-    ((ns : List (List ℕ)) (j : ℕ) → ns ≡ v .names ++ take j bs → Shows x₀ W (withNames v ns)) →
+    length (flat (v .names)) + length (flat bs) ≤ 64 * v .layout .segments → NamesPass x₀ W v bs →
     Phase (Stage x₀ v d t) (Stage x₀ (withNames v (v .names ++ bs)) d t) W (storeNames (v .layout .namelist) (v .names) bs)
 unfolding storeNames
-all-names v [] low off even named fits shows = rw append-nil phase-nil
-all-names v {d} {t} (b ∷ bs) low off even named fits shows =
+all-names v [] low off even named fits passes = rw append-nil phase-nil
+all-names v {d} {t} (b ∷ bs) low off even named fits passes =
     let more : List (List ℕ) = v .names ++ b ∷ [] in
-    one-name b low off even (named .0) (omega (arith, flat-size b bs)) (shows (v .names) 0 (sym (append-nil (v .names))))
+    let none : v .names ≡ v .names ++ [] = sym (append-nil (v .names)) in
+    one-name b low off even (named .0) (omega (arith, flat-size b bs)) (passes (v .names) (v .names) 0 0 (omega arith) none none)
+    (passes (v .names) more 0 1 (omega arith) none refl)
     ⨾ rw append-assoc at (all-names (withNames v more) {t = t} bs low off even (named .1) (omega (arith, flat-size b bs, flat-more (v .names) b))
-    (λ ns j e. shows ns (suc j) (e ∙ append-assoc (v .names) (b ∷ []) (take j bs))))
+    (λ ns ms i j l e f. passes ns ms (suc i) (suc j) (omega arith) (e ∙ append-assoc (v .names) (b ∷ []) (take i bs)) (f ∙ append-assoc (v .names) (b ∷ []) (take j bs))))

@@ -1,9 +1,9 @@
 -- From one append to a run of appends: what holds at every moment of a call holds at every moment of a run.
-use Prim.Native.Nat.{ℕ, zero, suc, _+_, _≤_, _<_, min}
+use Prim.Native.Nat.{ℕ, zero, suc, _+_, _-_, _≤_, _<_, min}
 use mathlib.Core.Path.{_≡_, refl, sym, _∙_, ap}
 use mathlib.Core.Bool.{Bool, true, false, true≢false}
 use mathlib.Core.List.{List, [], _∷_}
-use native.Mathlib.Nat.{add-zero}
+use native.Mathlib.Nat.{zero-add, suc-add, add-zero}
 use native.Mathlib.Decide.{ℕ-discrete, decLt, decLe}
 use native.Mathlib.Omega.{arith}
 use lib.ListN.{length, getD, take}
@@ -14,26 +14,27 @@ use Rattle.gsd_format.proofs.Refusals.{both-true, both-of}
 use Rattle.gsd_stores.specs.Sheet.{Row, rowsOf}
 use Rattle.gsd_stores.specs.Stores.{after}
 use Rattle.gsd_stores.specs.Append.{appendTest, storesFor, appended}
-use Rattle.gsd_stores.specs.Runs.{Bytes, Call, Moment, start, during, later, afterCall, afterRun, frames, lastStoreMade, completed}
+use Rattle.gsd_stores.specs.Runs.{Bytes, Call, storesMade, afterStores, afterCall, afterRun, frames, lastStoreMade, completed}
+use Rattle.gsd_stores.specs.Runs.{Moment, start, during, later, Follows, fromStart, inCall, fromCall, bothLater}
 use Rattle.gsd_stores.specs.Demand3.{Complete, Demand3}
-use Rattle.gsd_stores.proofs.Keep.{Keep, keep-refl, keep-trans, absent-kept, complete-kept}
+use Rattle.gsd_stores.proofs.Keep.{Keep, keep-refl, keep-trans, absent-kept, named-kept, complete-kept}
 
--- before the last store of an append: the image opens, and shows what it showed
-pub record Unchanged (x y : List ℕ) : Type 0 where
-  pub opens : verdict y ≡ 0
-  pub keep : Keep x y
-  pub flip : Keep y x
+-- a store of an append that began at x, from a to b: it finds an image that opens, with the frames of the beginning, and keeps what
+-- that has
+pub record Stored (x a b : List ℕ) : Type 0 where
+  pub opens : verdict a ≡ 0
+  pub same : frames a ≡ frames x
+  pub keep : Keep a b
 
--- after it: one frame more, complete and exactly as requested
+-- after the last one: one frame more, complete and exactly as requested
 pub record Grown (x : List ℕ) (rows : List Row) (y : List ℕ) : Type 0 where
   pub opens : verdict y ≡ 0
-  pub keep : Keep x y
   pub more : frames y ≡ frames x + 1
   pub complete : Complete y (frames x) rows
 
--- the moments of one accepted append
+-- the stores of one accepted append
 pub record Accepted (x s : List ℕ) : Type 0 where
-  pub before : (k : ℕ) → k < length (storesFor x s) → Unchanged x (after x (take k (storesFor x s)))
+  pub each : (k : ℕ) → k < length (storesFor x s) → Stored x (after x (take k (storesFor x s))) (after x (take (suc k) (storesFor x s)))
   pub last : Grown x (rowsOf s) (after x (storesFor x s))
 
 stores-refused : (x s : List ℕ) → (appendTest x s ≡ 0 → ⊥) → storesFor x s ≡ []
@@ -56,12 +57,12 @@ after-none x = refl
 pub refused-keeps : (x s : List ℕ) (k : ℕ) → (appendTest x s ≡ 0 → ⊥) → after x (take k (storesFor x s)) ≡ x
 refused-keeps x s k h = rw (stores-refused x s h, take-nil) (after-none x)
 
--- the image after k stores of a call
-abbrev momentOf : List ℕ → Call → ℕ → List ℕ
-momentOf x c k = after x (take k (storesFor x (c .sheet)))
-
-after-call : (x : List ℕ) (c : Call) → afterCall x c ≡ momentOf x c (min (c .limit) (length (storesFor x (c .sheet))))
+after-call : (x : List ℕ) (c : Call) → afterCall x c ≡ afterStores x c (storesMade x c)
 after-call x c = appended-is x (c .sheet) (c .limit)
+
+-- the start of a call is its moment after 0 stores
+zeroth : (x : List ℕ) (c : Call) → afterStores x c 0 ≡ x
+zeroth x c = after-none x
 
 -- whether the last store was made
 made-both : (x : List ℕ) (c : Call) → lastStoreMade x c ≡ true → (appendTest x (c .sheet) ≡ 0) × (length (storesFor x (c .sheet)) ≤ c .limit)
@@ -74,41 +75,79 @@ both-made : (x : List ℕ) (c : Call) → appendTest x (c .sheet) ≡ 0 → leng
 unfolding lastStoreMade
 both-made x c h l = both-of _ _ (eq-eqb (appendTest x (c .sheet)) 0 h) (le-leb (length (storesFor x (c .sheet))) (c .limit) l)
 
+-- The end of a run
+
+run-none : (x : List ℕ) → afterRun x [] ≡ x
+unfolding afterRun
+run-none x = refl
+
+run-more : (x : List ℕ) (c : Call) (cs : List Call) → afterRun x (c ∷ cs) ≡ afterRun (afterCall x c) cs
+unfolding afterRun
+run-more x c cs = refl
+
+-- it is a moment of the run, and follows each
+pub end-moment : (x : List ℕ) (cs : List Call) → Moment x cs (afterRun x cs)
+end-moment x [] = rw (run-none x) start
+end-moment x (c ∷ cs) = rw (run-more x c cs) (later (end-moment (afterCall x c) cs))
+
+pub end-follows : {x : List ℕ} {cs : List Call} {m : List ℕ} → Moment x cs m → Follows x cs m (afterRun x cs)
+end-follows (start {x = x} {cs = cs}) = fromStart (end-moment x cs)
+end-follows (during {x = x} {c = c} {cs = cs} k h) = rw (run-more x c cs) (fromCall k h (end-moment (afterCall x c) cs))
+end-follows (later {x = x} {c = c} {cs = cs} t) = rw (run-more x c cs) (bothLater (end-follows t))
+
+-- of two moments in their order each is one
+pub follows-first : {x : List ℕ} {cs : List Call} {m n : List ℕ} → Follows x cs m n → Moment x cs m
+follows-first (fromStart t) = start
+follows-first (inCall {x = x} {c = c} k l h g) = during {x = x} {c = c} k (omega arith)
+follows-first (fromCall k h t) = during k h
+follows-first (bothLater f) = later (follows-first f)
+
+pub follows-second : {x : List ℕ} {cs : List Call} {m n : List ℕ} → Follows x cs m n → Moment x cs n
+follows-second (fromStart t) = t
+follows-second (inCall k l h g) = during l g
+follows-second (fromCall k h t) = later t
+follows-second (bothLater f) = later (follows-second f)
+
 module _ (accepted : (x s : List ℕ) → Bytes s → appendTest x s ≡ 0 → Accepted x s) where
   -- One call
 
-  call-opens : (x : List ℕ) (c : Call) → verdict x ≡ 0 → (k : ℕ) → verdict (momentOf x c k) ≡ 0
+  call-opens : (x : List ℕ) (c : Call) → verdict x ≡ 0 → (k : ℕ) → verdict (afterStores x c k) ≡ 0
   call-opens x c o k = go (ℕ-discrete (appendTest x (c .sheet)) 0) (decLt k (length (storesFor x (c .sheet))))
     where
-      go : Dec (appendTest x (c .sheet) ≡ 0) → Dec (k < length (storesFor x (c .sheet))) → verdict (momentOf x c k) ≡ 0
-      go (yes e) (yes l) = accepted x (c .sheet) (c .bytes) e .before k l .opens
+      go : Dec (appendTest x (c .sheet) ≡ 0) → Dec (k < length (storesFor x (c .sheet))) → verdict (afterStores x c k) ≡ 0
+      go (yes e) (yes l) = accepted x (c .sheet) (c .bytes) e .each k l .opens
       go (yes e) (no l) = rw (take-all k (storesFor x (c .sheet)) (omega arith)) (accepted x (c .sheet) (c .bytes) e .last .opens)
       go (no e) d = rw (refused-keeps x (c .sheet) k e) o
 
-  -- from an earlier to a later moment of a call
-  call-keeps : (x : List ℕ) (c : Call) (k l : ℕ) → k ≤ l → Keep (momentOf x c k) (momentOf x c l)
-  call-keeps x c k l h = go (ℕ-discrete (appendTest x (c .sheet)) 0) (decLt k (length (storesFor x (c .sheet)))) (decLt l (length (storesFor x (c .sheet))))
+  -- the number of frames until the last store
+  call-frames : (x : List ℕ) (c : Call) (k : ℕ) → k < length (storesFor x (c .sheet)) → frames (afterStores x c k) ≡ frames x
+  call-frames x c k l = go (ℕ-discrete (appendTest x (c .sheet)) 0)
     where
-      go : Dec (appendTest x (c .sheet) ≡ 0) → Dec (k < length (storesFor x (c .sheet))) → Dec (l < length (storesFor x (c .sheet))) → Keep (momentOf x c k) (momentOf x c l)
-      go (yes e) (yes a) (yes b) =
-          keep-trans _ x _ (accepted x (c .sheet) (c .bytes) e .before k a .flip) (accepted x (c .sheet) (c .bytes) e .before l b .keep)
-      go (yes e) (yes a) (no b) =
-          rw (take-all l (storesFor x (c .sheet)) (omega arith))
-          (keep-trans _ x _ (accepted x (c .sheet) (c .bytes) e .before k a .flip) (accepted x (c .sheet) (c .bytes) e .last .keep))
-      go (yes e) (no a) (yes b) = absurd (omega arith)
-      go (yes e) (no a) (no b) =
-          rw (take-all k (storesFor x (c .sheet)) (omega arith), take-all l (storesFor x (c .sheet)) (omega arith)) (keep-refl _)
-      go (no e) a b = rw (refused-keeps x (c .sheet) k e, refused-keeps x (c .sheet) l e) (keep-refl x)
+      go : Dec (appendTest x (c .sheet) ≡ 0) → frames (afterStores x c k) ≡ frames x
+      go (yes e) = accepted x (c .sheet) (c .bytes) e .each k l .same
+      go (no e) = ap frames (refused-keeps x (c .sheet) k e)
 
-  -- the start of a call is its moment after 0 stores
-  zeroth : (x : List ℕ) (c : Call) → momentOf x c 0 ≡ x
-  zeroth x c = after-none x
+  -- from a moment of a call to the next, and to any later one
+  store-keeps : (x : List ℕ) (c : Call) (k : ℕ) → Keep (afterStores x c k) (afterStores x c (suc k))
+  store-keeps x c k = go (ℕ-discrete (appendTest x (c .sheet)) 0) (decLt k (length (storesFor x (c .sheet))))
+    where
+      go : Dec (appendTest x (c .sheet) ≡ 0) → Dec (k < length (storesFor x (c .sheet))) → Keep (afterStores x c k) (afterStores x c (suc k))
+      go (yes e) (yes l) = accepted x (c .sheet) (c .bytes) e .each k l .keep
+      go (yes e) (no l) = rw (take-all k (storesFor x (c .sheet)) (omega arith), take-all (suc k) (storesFor x (c .sheet)) (omega arith)) (keep-refl _)
+      go (no e) d = rw (refused-keeps x (c .sheet) k e, refused-keeps x (c .sheet) (suc k) e) (keep-refl x)
+
+  stores-keep : (x : List ℕ) (c : Call) (k n : ℕ) → Keep (afterStores x c k) (afterStores x c (n + k))
+  stores-keep x c k zero = rw zero-add (keep-refl (afterStores x c k))
+  stores-keep x c k (suc n) = rw suc-add (keep-trans _ _ _ (stores-keep x c k n) (store-keeps x c (n + k)))
+
+  call-keeps : (x : List ℕ) (c : Call) (k l : ℕ) → k ≤ l → Keep (afterStores x c k) (afterStores x c l)
+  call-keeps x c k l h = let e : l ≡ l - k + k = omega arith in rw e (stores-keep x c k (l - k))
 
   done-opens : (x : List ℕ) (c : Call) → verdict x ≡ 0 → verdict (afterCall x c) ≡ 0
-  done-opens x c o = rw (after-call x c) (call-opens x c o (min (c .limit) (length (storesFor x (c .sheet)))))
+  done-opens x c o = rw (after-call x c) (call-opens x c o (storesMade x c))
 
-  done-keeps : (x : List ℕ) (c : Call) (k : ℕ) → k ≤ min (c .limit) (length (storesFor x (c .sheet))) → Keep (momentOf x c k) (afterCall x c)
-  done-keeps x c k h = rw (after-call x c) (call-keeps x c k (min (c .limit) (length (storesFor x (c .sheet)))) h)
+  done-keeps : (x : List ℕ) (c : Call) (k : ℕ) → k ≤ storesMade x c → Keep (afterStores x c k) (afterCall x c)
+  done-keeps x c k h = rw (after-call x c) (call-keeps x c k (storesMade x c) h)
 
   call-whole : (x : List ℕ) (c : Call) → lastStoreMade x c ≡ true → Grown x (rowsOf (c .sheet)) (afterCall x c)
   call-whole x c h =
@@ -121,41 +160,26 @@ module _ (accepted : (x s : List ℕ) → Bytes s → appendTest x s ≡ 0 → A
     where
       go : Dec (appendTest x (c .sheet) ≡ 0) → Dec (length (storesFor x (c .sheet)) ≤ c .limit) → frames (afterCall x c) ≡ frames x
       go (yes e) (yes l) = absurd (true≢false (sym (both-made x c e l) ∙ h))
-      go (yes e) (no l) =
-          let u : Unchanged x (momentOf x c (min (c .limit) (length (storesFor x (c .sheet))))) = accepted x (c .sheet) (c .bytes) e .before (min (c .limit) (length (storesFor x (c .sheet)))) (omega arith) in
-          rw (after-call x c) (omega (arith, u .keep .grow, u .flip .grow))
-      go (no e) l = rw (after-call x c, refused-keeps x (c .sheet) (min (c .limit) (length (storesFor x (c .sheet)))) e)
+      go (yes e) (no l) = rw (after-call x c) (call-frames x c (storesMade x c) (omega arith))
+      go (no e) l = rw (after-call x c, refused-keeps x (c .sheet) (storesMade x c) e)
 
   -- The run
-
-  run-none : (x : List ℕ) → afterRun x [] ≡ x
-  unfolding afterRun
-  run-none x = refl
-
-  run-more : (x : List ℕ) (c : Call) (cs : List Call) → afterRun x (c ∷ cs) ≡ afterRun (afterCall x c) cs
-  unfolding afterRun
-  run-more x c cs = refl
-
-  run-opens : (cs : List Call) (x : List ℕ) → verdict x ≡ 0 → verdict (afterRun x cs) ≡ 0
-  run-opens [] x o = rw (run-none x) o
-  run-opens (c ∷ cs) x o = rw (run-more x c cs) (run-opens cs (afterCall x c) (done-opens x c o))
-
-  run-keeps : (cs : List Call) (x : List ℕ) → verdict x ≡ 0 → Keep x (afterRun x cs)
-  run-keeps [] x o = rw (run-none x) (keep-refl x)
-  run-keeps (c ∷ cs) x o =
-      rw (run-more x c cs)
-      (keep-trans x (afterCall x c) _ (rw (zeroth x c) at (done-keeps x c 0 (omega arith))) (run-keeps cs (afterCall x c) (done-opens x c o)))
 
   moment-opens : {x : List ℕ} {cs : List Call} {m : List ℕ} → Moment x cs m → verdict x ≡ 0 → verdict m ≡ 0
   moment-opens start o = o
   moment-opens (during {x = x} {c = c} k h) o = call-opens x c o k
   moment-opens (later {x = x} {c = c} t) o = moment-opens t (done-opens x c o)
 
-  moment-keeps : {x : List ℕ} {cs : List Call} {m : List ℕ} → Moment x cs m → verdict x ≡ 0 → Keep m (afterRun x cs)
-  moment-keeps (start {x = x} {cs = cs}) o = run-keeps cs x o
-  moment-keeps (during {x = x} {c = c} {cs = cs} k h) o =
-      rw (run-more x c cs) (keep-trans _ (afterCall x c) _ (done-keeps x c k h) (run-keeps cs (afterCall x c) (done-opens x c o)))
-  moment-keeps (later {x = x} {c = c} {cs = cs} t) o = rw (run-more x c cs) (moment-keeps t (done-opens x c o))
+  moment-keeps : {x : List ℕ} {cs : List Call} {m : List ℕ} → Moment x cs m → Keep x m
+  moment-keeps (start {x = x}) = keep-refl x
+  moment-keeps (during {x = x} {c = c} k h) = rw (zeroth x c) at (call-keeps x c 0 k (omega arith))
+  moment-keeps (later {x = x} {c = c} t) = keep-trans x (afterCall x c) _ (rw (zeroth x c) at (done-keeps x c 0 (omega arith))) (moment-keeps t)
+
+  follows-keeps : {x : List ℕ} {cs : List Call} {m n : List ℕ} → Follows x cs m n → Keep m n
+  follows-keeps (fromStart t) = moment-keeps t
+  follows-keeps (inCall {x = x} {c = c} k l h g) = call-keeps x c k l h
+  follows-keeps (fromCall {x = x} {c = c} k h t) = keep-trans _ (afterCall x c) _ (done-keeps x c k h) (moment-keeps t)
+  follows-keeps (bothLater f) = follows-keeps f
 
   completed-none : (x : List ℕ) → completed x [] ≡ []
   unfolding completed
@@ -198,7 +222,7 @@ module _ (accepted : (x s : List ℕ) → Bytes s → appendTest x s ≡ 0 → A
       go r (made h) zero l =
           let g : Grown x (rowsOf (c .sheet)) (afterCall x c) = call-whole x c h in
           rw (run-more x c cs, completed-made x c cs h, add-zero)
-          (complete-kept (afterCall x c) _ (run-keeps cs (afterCall x c) (g .opens)) (run-opens cs (afterCall x c) (g .opens)) (frames x) (rowsOf (c .sheet)) (omega (arith, g .more)) (g .complete))
+          (complete-kept (afterCall x c) _ (moment-keeps (end-moment (afterCall x c) cs)) (moment-opens (end-moment (afterCall x c) cs) (g .opens)) (frames x) (rowsOf (c .sheet)) (omega (arith, g .more)) (g .complete))
       go r (made h) (suc i) l =
           let q : suc i < length (rowsOf (c .sheet) ∷ completed (afterCall x c) cs) = rw (completed-made x c cs h) at l in
           let e : frames x + suc i ≡ frames (afterCall x c) + i = omega (arith, call-whole x c h .more) in
@@ -207,12 +231,15 @@ module _ (accepted : (x s : List ℕ) → Bytes s → appendTest x s ≡ 0 → A
   -- the claim about the whole run
   pub all-fields : (x : List ℕ) (cs : List Call) → verdict x ≡ 0 → Demand3 x cs
   all-fields x cs o = record {
-    opens = run-opens cs x o;
+    opens = moment-opens (end-moment x cs) o;
     always = λ t. moment-opens t o;
-    kept = λ t. moment-keeps t o .kept;
-    chunk = λ t. moment-keeps t o .chunk;
-    bytes = λ t. moment-keeps t o .bytes;
-    absent = λ t f n. absent-kept _ _ (moment-keeps t o) (run-opens cs x o) f n;
+    kept = λ t. follows-keeps t .kept;
+    chunk = λ t. follows-keeps t .chunk;
+    bytes = λ t. follows-keeps t .bytes;
+    absent = λ t f n. absent-kept _ _ (follows-keeps t) (moment-opens (follows-second t) o) f n;
+    named = λ t f n. named-kept _ _ (follows-keeps t) (moment-opens (follows-first t) o) (moment-opens (follows-second t) o) f n;
+    grows = λ t. follows-keeps t .grow;
+    steady = λ {y} {c} b k l. call-frames y c k l;
     counted = counted cs x;
     complete = each-complete cs x o;
     thereIf = λ {y} {c} b h. omega (arith, call-whole y c h .more);

@@ -14,7 +14,7 @@ use Rattle.gsd_format.specs.Entries.{entriesOf, framesOf}
 use Rattle.gsd_format.specs.Opening.{verdict, mostNames}
 use Rattle.gsd_format.specs.Lookup.{none, lookup, lookupIn, chunkOf}
 use Rattle.gsd_format.proofs.Bytes.{Same, same-from, part-same}
-use Rattle.gsd_format.proofs.Ids.{Distinct, index-append, index-back}
+use Rattle.gsd_format.proofs.Ids.{Distinct, index-append, index-back, has-front}
 use Rattle.gsd_format.proofs.Names.{names-pass, pass-names, namesOf-are, zero-closed}
 use Rattle.gsd_format.proofs.Entries.{Ordered, image-entries}
 use Rattle.gsd_format.proofs.Verdict.{Opens, verdict-zero}
@@ -108,6 +108,7 @@ module _ (a b : List ℕ) (u w : View) (more : List Entry) (ms : List (List ℕ)
     chunk = λ f n e g.
         let s : Stands (u .entries) f (indexOf n (u .names)) e = find-sound f (indexOf n (u .names)) (u .entries) e (look-found (u .entries) (u .names) f n e .0 (sym (look-a f n) ∙ g) .2) in
         chunk-kept e (s .place) (s .within) (s .there);
+    named = λ n l. rw (shown-names (h .to), h .names) (has-front n (u .names) ms (rw (shown-names (h .from)) at l));
     many = omega (arith, ap length (shown-entries (h .from)), ap length (shown-entries (h .to) ∙ h .entries), length-append (u .entries) more);
     bytes = λ i l. rw (h .to .layout, h .from .layout) (slot-kept i (rw (shown-entries (h .from)) at l));
   }

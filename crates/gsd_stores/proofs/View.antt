@@ -31,7 +31,10 @@ indexLaid l b n = record { len = l .len; index = b; slots = n; namelist = l .nam
 abbrev pub namesLaid : Layout → ℕ → ℕ → Layout
 namesLaid l b n = record { len = l .len; index = l .index; slots = l .slots; namelist = b; segments = n }
 
--- v with a block elsewhere, with other names, with more entries
+-- v in another layout, with a block elsewhere, with other names, with more entries
+abbrev pub withLayout : View → Layout → View
+withLayout v l = record { layout = l; entries = v .entries; names = v .names }
+
 abbrev pub withIndexBlock : View → ℕ → ℕ → View
 withIndexBlock v b n = record { layout = indexLaid (v .layout) b n; entries = v .entries; names = v .names }
 
@@ -205,9 +208,13 @@ base-kept h b = record {
 pub base-start : {v : View} {x : List ℕ} → Is x v → Base x v x
 base-start {v} {x} h = record { is = h; raw = λ k l. ap (λ c. getD x (c .index + k) 0) (sym (h .layout)); chunks = λ i l k m. refl }
 
--- whatever shows v, with the bytes of the beginning, is W
-abbrev pub Shows : List ℕ → (List ℕ → Type 0) → View → Type 0
-Shows x₀ W v = (y : List ℕ) → Base x₀ v y → W y
+-- W from whatever shows u to whatever shows w, both with the bytes of the beginning
+abbrev pub Passes : List ℕ → (List ℕ → List ℕ → Type 0) → View → View → Type 0
+Passes x₀ W u w = (a b : List ℕ) → Base x₀ u a → Base x₀ w b → W a b
+
+-- W from and to whatever shows the entries and names of v, wherever its blocks lie
+abbrev pub Quiet : List ℕ → (List ℕ → List ℕ → Type 0) → View → Type 0
+Quiet x₀ W v = (l m : Layout) → l .len ≡ v .layout .len → m .len ≡ v .layout .len → Passes x₀ W (withLayout v l) (withLayout v m)
 
 -- zeros behind the entry list, to the index block's end; behind the name list, to the name block's end
 abbrev pub IndexClear : View → List ℕ → Type 0
@@ -233,14 +240,14 @@ stage-behind {x₀} {v} {d} {t} {pos} {x} {y} r l f s = record {
   body = λ k m. f (d + k) (omega arith) ∙ s .body k m;
 }
 
--- a run upwards that changes nothing visible: every moment of it shows v
-module _ {x₀ : List ℕ} {W : List ℕ → Type 0} {v : View} (shows : Shows x₀ W v) where
-  pub phase-quiet : {P Q : List ℕ → Type 0} (t : List ℕ) (base lo n : ℕ) → base ≤ lo → ((x : List ℕ) → P x → Base x₀ v x) →
+-- a run upwards that changes nothing visible: every moment of it shows v, the end too
+module _ {x₀ : List ℕ} {W : List ℕ → List ℕ → Type 0} {v : View} (same : Passes x₀ W v v) where
+  pub phase-quiet : {P Q : List ℕ → Type 0} (t : List ℕ) (base lo n : ℕ) → base ≤ lo → ((x : List ℕ) → P x → Base x₀ v x) → ((x : List ℕ) → Q x → Base x₀ v x) →
       ((x : List ℕ) → P x → lo + 8 * n ≤ v .layout .len) →
       ((x : List ℕ) → P x → (p : ℕ) → lo ≤ p → p < lo + 8 * n → (getD t (p - base) 0 ≡ getD x p 0) ⊎ Free v p) →
       ((x : List ℕ) → P x → (y : List ℕ) → Over x t base lo (lo + 8 * n) y → Base x₀ v y → Q y) →
       Phase P Q W (words t base (up lo n))
-  phase-quiet t base lo n b to f free q =
-      phase-up t base lo n b (λ x p. omega (arith, f x p, is-long (to x p .is)))
-      (λ x p m l y o. shows y (base-kept (keeps-over o (λ i c d. free x p i c (omega arith))) (to x p)))
+  phase-quiet t base lo n b to from f free q =
+      phase-up {M = Base x₀ v} same (λ c d h k. same c d h (from d k)) t base lo n b (λ x p. omega (arith, f x p, is-long (to x p .is)))
+      (λ x p m l y o. base-kept (keeps-over o (λ i c d. free x p i c (omega arith))) (to x p))
       (λ x p y o. q x p y o (base-kept (keeps-over o (free x p)) (to x p)))

@@ -1,17 +1,18 @@
 -- The whole append: from an image that shows v, by a good plan, every moment before the last store shows v with some of the new names,
--- its blocks where they were or moved; after the last store all new entries are listed.
+-- no fewer than the moment before, its blocks where they were or moved; after the last store all new entries are listed.
 use Prim.Native.Nat.{ℕ, _+_, _*_, _%_, _≤_}
-use mathlib.Core.Path.{_≡_, refl, sym, _∙_, ap}
+use mathlib.Core.Path.{_≡_, refl, sym, ap}
 use mathlib.Core.Bool.{Bool, true, false, cond}
 use mathlib.Core.List.{List, _++_, append-nil}
 use native.Mathlib.Omega.{arith}
 use lib.ListN.{length, take}
 use lib.Seq.{take-length}
+use Rattle.gsd_format.specs.declared.Layout.{Layout}
 use Rattle.gsd_stores.specs.View.{View}
 use Rattle.gsd_stores.specs.Plan.{Plan, dataEnd, namesDone, finalPosition}
 use Rattle.gsd_stores.specs.Steps.{moveNames, moveIndex, nameBlock, stepsOf}
 use Rattle.gsd_stores.proofs.Phases.{Phase, _⨾_}
-use Rattle.gsd_stores.proofs.View.{withNameBlock, withIndexBlock, withNames, Is, is-long, Room, room-named, Base, Shows}
+use Rattle.gsd_stores.proofs.View.{withLayout, withNames, Is, is-long, Room, room-named, Base, Passes, Quiet}
 use Rattle.gsd_stores.proofs.Blocks.{theIndex, theNames}
 use Rattle.gsd_stores.proofs.Good.{roomy, named, ready, Good}
 use Rattle.gsd_stores.proofs.Clear.{clear-index, clear-names, store-data}
@@ -39,10 +40,15 @@ cond-even : (move : Bool) (a b : ℕ) → a % 8 ≡ 0 → b % 8 ≡ 0 → cond m
 cond-even false a b h g = g
 cond-even true a b h g = h
 
--- whatever shows v with the first so many of the new names, its blocks anywhere, is W
-abbrev pub AllShow : List ℕ → (List ℕ → Type 0) → View → Plan → Type 0
-AllShow x₀ W v p =
-    (u : View) (j : ℕ) → u .layout .len ≡ v .layout .len → u .entries ≡ v .entries → u .names ≡ v .names ++ take j (p .fresh) → Shows x₀ W u
+-- u has the entries of v, and its names with the first so many of the new ones, its blocks anywhere
+pub record SoFar (v : View) (p : Plan) (j : ℕ) (u : View) : Type 0 where
+  pub len : u .layout .len ≡ v .layout .len
+  pub entries : u .entries ≡ v .entries
+  pub names : u .names ≡ v .names ++ take j (p .fresh)
+
+-- W from some of the new names to no fewer
+abbrev pub AllPass : List ℕ → (List ℕ → List ℕ → Type 0) → View → Plan → Type 0
+AllPass x₀ W v p = (u w : View) (i j : ℕ) → i ≤ j → SoFar v p i u → SoFar v p j w → Passes x₀ W u w
 
 module _ {v : View} {p : Plan} (g : Good v p) where
   pub names-fit : namesDone p ≤ v .layout .len
@@ -66,24 +72,35 @@ module _ {v : View} {p : Plan} (g : Good v p) where
   pub block-even : nameBlock v p % 8 ≡ 0
   block-even = cond-even (p .namesMove) (dataEnd p) (v .layout .namelist) (omega arith) (g .namelistEven)
 
-  pub whole-append : {x₀ : List ℕ} {W : List ℕ → Type 0} → Is x₀ v → AllShow x₀ W v p →
+  pub whole-append : {x₀ : List ℕ} {W : List ℕ → List ℕ → Type 0} → Is x₀ v → AllPass x₀ W v p →
+      ((a b : List ℕ) → Base x₀ (ready v p) a → Final x₀ (ready v p) (p .entries) (p .start) (p .body) b → W a b) →
       Phase (Base x₀ v) (Final x₀ (ready v p) (p .entries) (p .start) (p .body)) W (stepsOf x₀ v p)
   unfolding stepsOf moveNames moveIndex
-  whole-append {x₀} {W} h shows =
-      clear-index (before v refl refl refl)
-      ⨾ clear-names (before v refl refl refl) (p .start) (g .namelistEven)
-      ⨾ store-data (before v refl refl refl) p (g .room) (g .bodyEven) data-fits
-      ⨾ names-step (p .namesMove) (dataEnd p) (p .segments) room-before (g .moreSegments) names-fit
-      (before v refl refl refl) (before (withNameBlock v (dataEnd p) (v .layout .segments)) refl refl refl)
+  whole-append {x₀} {W} h passes last =
+      clear-index (before (v .layout) (v .layout) refl refl)
+      ⨾ clear-names (before (v .layout) (v .layout) refl refl) (p .start) (g .namelistEven)
+      ⨾ store-data (before (v .layout) (v .layout) refl refl) p (g .room) (g .bodyEven) data-fits
+      ⨾ names-step (p .namesMove) (dataEnd p) (p .segments) room-before (g .moreSegments) names-fit before
       ⨾ all-names (roomy v p) (p .fresh) (g .room .low) (room-roomy .offNames) block-even (g .fresh) (g .namesFit)
-      (λ ns j. shows (withNames (roomy v p) ns) j refl refl)
+      (λ ns ms i j l e f. passes (withNames (roomy v p) ns) (withNames (roomy v p) ms) i j l
+      (record { len = refl; entries = refl; names = e }) (record { len = refl; entries = refl; names = f }))
       ⨾ index-step (p .indexMoves) (namesDone p) (p .slots) room-names (v .layout .index) (ap (λ l. l .index) (h .layout)) (omega (arith, is-long h))
-      (g .moreSlots) (g .fits) (behind (named v p) refl refl refl) (behind (withIndexBlock (named v p) (namesDone p) (v .layout .slots)) refl refl refl)
-      ⨾ store-entries (behind (ready v p) refl refl refl) (p .entries) (p .start) (p .body) (g .entriesFit) (g .sound) (g .exact) (room-ready .offIndex)
+      (g .moreSlots) (g .fits) behind
+      ⨾ store-entries (p .entries) (p .start) (p .body) (behind (ready v p .layout) (ready v p .layout) refl refl) last
+      (g .entriesFit) (g .sound) (g .exact) (room-ready .offIndex)
     where
-      -- views before the first new name and behind the last
-      before : (u : View) → u .layout .len ≡ v .layout .len → u .entries ≡ v .entries → u .names ≡ v .names → Shows x₀ W u
-      before u l e n = shows u 0 l e (n ∙ sym (append-nil (v .names)))
+      -- before the first new name and behind the last
+      before : Quiet x₀ W v
+      before l m a b = passes (withLayout v l) (withLayout v m) 0 0 (omega arith) (none l a) (none m b)
+        where
+          none : (l : Layout) → l .len ≡ v .layout .len → SoFar v p 0 (withLayout v l)
+          none l e = record { len = e; entries = refl; names = sym (append-nil (v .names)) }
 
-      behind : (u : View) → u .layout .len ≡ v .layout .len → u .entries ≡ v .entries → u .names ≡ v .names ++ p .fresh → Shows x₀ W u
-      behind u l e n = shows u (length (p .fresh)) l e (n ∙ ap (λ bs. v .names ++ bs) (sym (take-length (p .fresh))))
+      behind : Quiet x₀ W (named v p)
+      behind l m a b = passes (withLayout (named v p) l) (withLayout (named v p) m) n n (omega arith) (all l a) (all m b)
+        where
+          n : ℕ
+          n = length (p .fresh)
+
+          all : (l : Layout) → l .len ≡ v .layout .len → SoFar v p n (withLayout (named v p) l)
+          all l e = record { len = e; entries = refl; names = ap (λ bs. v .names ++ bs) (sym (take-length (p .fresh))) }

@@ -1,6 +1,6 @@
 -- Demand 3: what a run of appends keeps, and when a frame is there. One claim about the whole run, from any image that
 -- opens; proved in proofs/.
-use Prim.Native.Nat.{ℕ, _+_, _*_, _<_}
+use Prim.Native.Nat.{ℕ, _+_, _*_, _≤_, _<_}
 use mathlib.Core.Path.{_≡_}
 use mathlib.Core.Logic.{_⊎_}
 use mathlib.Core.Bool.{true}
@@ -15,7 +15,8 @@ use Rattle.gsd_format.specs.Opening.{verdict}
 use Rattle.gsd_format.specs.Lookup.{lookup, chunkOf}
 use Rattle.gsd_format.specs.Answers.{listedNumber}
 use Rattle.gsd_stores.specs.Sheet.{Row}
-use Rattle.gsd_stores.specs.Runs.{Call, Moment, Begins, afterCall, afterRun, frames, lastStoreMade, completed}
+use Rattle.gsd_stores.specs.Append.{storesFor}
+use Rattle.gsd_stores.specs.Runs.{Call, Moment, Follows, Begins, afterCall, afterRun, afterStores, frames, lastStoreMade, completed}
 
 -- None found there: the lookup gives 41 or 42.
 abbrev pub Absent : List ℕ → ℕ → List ℕ → Type 0
@@ -44,13 +45,19 @@ pub record Demand3 (x : List ℕ) (cs : List Call) : Type 0 where
   -- the image opens: after the run, and at each of its moments
   pub opens : verdict (afterRun x cs) ≡ 0
   pub always : {m : List ℕ} → Moment x cs m → verdict m ≡ 0
-  -- everything ever found is found unchanged: the same entry, and the same bytes of its chunk
-  pub kept : {m : List ℕ} → Moment x cs m → (frame : ℕ) (name : List ℕ) (e : Entry) → lookup m frame name ≡ Listed.Found e → lookup (afterRun x cs) frame name ≡ Listed.Found e
-  pub chunk : {m : List ℕ} → Moment x cs m → (frame : ℕ) (name : List ℕ) (e : Entry) → lookup m frame name ≡ Listed.Found e → chunkOf (afterRun x cs) e ≡ chunkOf m e
+  -- From here to `grows`: between any two moments, and so from each moment to the run's end.
+  -- Everything ever found is found unchanged: the same entry, and the same bytes of its chunk
+  pub kept : {m n : List ℕ} → Follows x cs m n → (frame : ℕ) (name : List ℕ) (e : Entry) → lookup m frame name ≡ Listed.Found e → lookup n frame name ≡ Listed.Found e
+  pub chunk : {m n : List ℕ} → Follows x cs m n → (frame : ℕ) (name : List ℕ) (e : Entry) → lookup m frame name ≡ Listed.Found e → chunkOf n e ≡ chunkOf m e
   -- the same entry is the same in all 32 bytes
-  pub bytes : {m : List ℕ} → Moment x cs m → (i : ℕ) → i < length (entriesOf m) → part (afterRun x cs) (layoutOf (afterRun x cs) .index + 32 * i) 32 ≡ part m (layoutOf m .index + 32 * i) 32
-  -- older frame: any number below the number of frames at that moment. Nothing appears there
-  pub absent : {m : List ℕ} → Moment x cs m → (frame : ℕ) (name : List ℕ) → frame < frames m → Absent m frame name → Absent (afterRun x cs) frame name
+  pub bytes : {m n : List ℕ} → Follows x cs m n → (i : ℕ) → i < length (entriesOf m) → part n (layoutOf n .index + 32 * i) 32 ≡ part m (layoutOf m .index + 32 * i) 32
+  -- older frame: any number below the number of frames at that moment. Nothing appears there; a new name may turn 41 into
+  -- 42, and nothing turns 42 into 41
+  pub absent : {m n : List ℕ} → Follows x cs m n → (frame : ℕ) (name : List ℕ) → frame < frames m → Absent m frame name → Absent n frame name
+  pub named : {m n : List ℕ} → Follows x cs m n → (frame : ℕ) (name : List ℕ) → listedNumber (lookup m frame name) ≡ 42 → listedNumber (lookup n frame name) ≡ 42
+  -- the number of frames never falls; within an append it is that of the beginning until the last store
+  pub grows : {m n : List ℕ} → Follows x cs m n → frames m ≤ frames n
+  pub steady : {y : List ℕ} {c : Call} → Begins x cs y c → (k : ℕ) → k < length (storesFor y (c .sheet)) → frames (afterStores y c k) ≡ frames y
   -- the i-th append whose last store was made, from 0, has the frame numbered i plus the number of frames at the start
   pub counted : frames (afterRun x cs) ≡ frames x + length (completed x cs)
   pub complete : (i : ℕ) → i < length (completed x cs) → Complete (afterRun x cs) (frames x + i) (getD (completed x cs) i [])

@@ -27,12 +27,28 @@ unfoldable pub afterRun : List ℕ → List Call → List ℕ
 afterRun x [] = x
 afterRun x (c ∷ cs) = afterRun (afterCall x c) cs
 
+-- how many stores a call makes, and the image after k of them
+abbrev pub storesMade : List ℕ → Call → ℕ
+storesMade x c = min (c .limit) (length (storesFor x (c .sheet)))
+
+abbrev pub afterStores : List ℕ → Call → ℕ → List ℕ
+afterStores x c k = after x (take k (storesFor x (c .sheet)))
+
 -- The moments of a run are its start and the points after each store: `Moment x cs m` says that m is the image at a
 -- moment of the run cs from x
 pub data Moment : List ℕ → List Call → List ℕ → Type 0 where
   start : {x : List ℕ} {cs : List Call} → Moment x cs x
-  during : {x : List ℕ} {c : Call} {cs : List Call} (k : ℕ) → k ≤ min (c .limit) (length (storesFor x (c .sheet))) → Moment x (c ∷ cs) (after x (take k (storesFor x (c .sheet))))
+  during : {x : List ℕ} {c : Call} {cs : List Call} (k : ℕ) → k ≤ storesMade x c → Moment x (c ∷ cs) (afterStores x c k)
   later : {x : List ℕ} {c : Call} {cs : List Call} {m : List ℕ} → Moment (afterCall x c) cs m → Moment x (c ∷ cs) m
+
+-- Two moments in their order: `Follows x cs m n` says that m is the image at a moment of the run cs from x, and n at the
+-- same moment or a later one. The first is the start; or both lie in the first call; or the first does and the other lies
+-- behind that call; or both lie behind it
+pub data Follows : List ℕ → List Call → List ℕ → List ℕ → Type 0 where
+  fromStart : {x : List ℕ} {cs : List Call} {n : List ℕ} → Moment x cs n → Follows x cs x n
+  inCall : {x : List ℕ} {c : Call} {cs : List Call} (k l : ℕ) → k ≤ l → l ≤ storesMade x c → Follows x (c ∷ cs) (afterStores x c k) (afterStores x c l)
+  fromCall : {x : List ℕ} {c : Call} {cs : List Call} {n : List ℕ} (k : ℕ) → k ≤ storesMade x c → Moment (afterCall x c) cs n → Follows x (c ∷ cs) (afterStores x c k) n
+  bothLater : {x : List ℕ} {c : Call} {cs : List Call} {m n : List ℕ} → Follows (afterCall x c) cs m n → Follows x (c ∷ cs) m n
 
 -- `Begins x cs y c` says that the call c is one of the run cs from x, and y is the image as it begins
 pub data Begins : List ℕ → List Call → List ℕ → Call → Type 0 where
