@@ -97,7 +97,8 @@ module _ (x : List ℕ) (rs : List Row) (ok : Valid x rs) where
   some-pass : AllPass x (Stored x) v p
   some-pass u w i j l su sw a b ha hb =
       let ms : List (List ℕ) = take (j - i) (drop i (p .fresh)) in
-      let more : take j (p .fresh) ≡ take i (p .fresh) ++ ms = ap (λ n. take n (p .fresh)) (let e : j ≡ i + (j - i) = omega arith in e) ∙ take-add i (j - i) (p .fresh) in
+      let more : take j (p .fresh) ≡ take i (p .fresh) ++ ms
+      = ap (λ n. take n (p .fresh)) (let e : j ≡ i + (j - i) = omega arith in e) ∙ take-add i (j - i) (p .fresh) in
       let es : w .entries ≡ u .entries = sw .entries ∙ sym (su .entries) in
       let oa : verdict a ≡ 0 = some-opens su (ha .is) in
       record {

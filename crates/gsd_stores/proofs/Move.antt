@@ -17,7 +17,8 @@ use Rattle.gsd_stores.specs.View.{View}
 use Rattle.gsd_stores.specs.Steps.{moved}
 use Rattle.gsd_stores.proofs.Stores.{Over, over-off}
 use Rattle.gsd_stores.proofs.Phases.{Phase, phase-nil, phase-one, _⨾_}
-use Rattle.gsd_stores.proofs.View.{indexLaid, namesLaid, withLayout, withIndexBlock, withNameBlock, is-long, free-behind, Room, room-laid, Base, Quiet, Stage, stage-behind, phase-quiet}
+use Rattle.gsd_stores.proofs.View.{indexLaid, namesLaid, withLayout, withIndexBlock, withNameBlock, is-long, free-behind, Room, room-laid}
+use Rattle.gsd_stores.proofs.View.{Base, Quiet, Stage, stage-behind, phase-quiet}
 use Rattle.gsd_stores.proofs.Blocks.{Filled, filled-text, Block, theIndex, theNames, unitOf, startIn, countIn, listIn}
 use Rattle.gsd_stores.proofs.Blocks.{Housed, housed-kept, stage-housed, Relaid, restage}
 

@@ -116,4 +116,5 @@ all-names v {d} {t} (b ∷ bs) low off even named fits passes =
     one-name b low off even (named .0) (omega (arith, flat-size b bs)) (passes (v .names) (v .names) 0 0 (omega arith) none none)
     (passes (v .names) more 0 1 (omega arith) none refl)
     ⨾ rw append-assoc at (all-names (withNames v more) {t = t} bs low off even (named .1) (omega (arith, flat-size b bs, flat-more (v .names) b))
-    (λ ns ms i j l e f. passes ns ms (suc i) (suc j) (omega arith) (e ∙ append-assoc (v .names) (b ∷ []) (take i bs)) (f ∙ append-assoc (v .names) (b ∷ []) (take j bs))))
+    (λ ns ms i j l e f. passes ns ms (suc i) (suc j) (omega arith)
+    (e ∙ append-assoc (v .names) (b ∷ []) (take i bs)) (f ∙ append-assoc (v .names) (b ∷ []) (take j bs))))

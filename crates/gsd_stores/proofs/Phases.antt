@@ -28,7 +28,8 @@ _⨾_ {P} {Q} {R} {W} {xs} {ys} f g = record {
   final = λ img p. rw after-append (g .final (after img xs) (f .final img p));
 }
   where
-    go : (img : List ℕ) → P img → (k : ℕ) → k < length (xs ++ ys) → Dec (k < length xs) → W (after img (take k (xs ++ ys))) (after img (take (suc k) (xs ++ ys)))
+    go : (img : List ℕ) → P img → (k : ℕ) → k < length (xs ++ ys) → Dec (k < length xs) →
+        W (after img (take k (xs ++ ys))) (after img (take (suc k) (xs ++ ys)))
     go img p k h (yes l) = rw (after-first img k xs ys (omega arith), after-first img (suc k) xs ys (omega arith)) (f .during img p k l)
     go img p k h (no l) =
         let j : ℕ = k - length xs in
@@ -38,15 +39,19 @@ _⨾_ {P} {Q} {R} {W} {xs} {ys} f g = record {
         = ap (λ n. after img (take n (xs ++ ys))) (let e : suc k ≡ length xs + suc j = omega arith in e) ∙ after-second img (suc j) xs ys in
         rw (before, behind) (g .during (after img xs) (f .final img p) j (omega (arith, length-append xs ys)))
 
--- Runs. Before each store the image is that after the words at the first k places. What is M at all these moments and Q at the end is
--- W from store to store
+-- Runs. Before each store the image is that after the words at the first k places, which has M; W holds from M to M, and from M to Q,
+-- which the image after the last store has
 
-module _ {P Q M : List ℕ → Type 0} {W : List ℕ → List ℕ → Type 0} (on : (a b : List ℕ) → M a → M b → W a b) (out : (a b : List ℕ) → M a → Q b → W a b) where
+module _ {P Q M : List ℕ → Type 0} {W : List ℕ → List ℕ → Type 0}
+    (on : (a b : List ℕ) → M a → M b → W a b) (out : (a b : List ℕ) → M a → Q b → W a b) where
   pub phase-fills : {lo n : ℕ} {l : List ℕ} → Fills lo n l → (t : List ℕ) (base : ℕ) → base ≤ lo → ((x : List ℕ) → P x → lo + 8 * n ≤ length x) →
       ((x : List ℕ) → P x → (k : ℕ) → k < n → M (after x (words t base (take k l)))) →
       ((x : List ℕ) → P x → (y : List ℕ) → Over x t base lo (lo + 8 * n) y → Q y) →
       Phase P Q W (words t base l)
-  phase-fills {n = n} {l = l} f t base b r m q = record { during = λ x p k h. rw (words-take k, words-take (suc k)) (go x p k (omega (arith, words-length t base l, f .size)) (decLt (suc k) n)); final = last }
+  phase-fills {n = n} {l = l} f t base b r m q = record {
+    during = λ x p k h. rw (words-take k, words-take (suc k)) (go x p k (omega (arith, words-length t base l, f .size)) (decLt (suc k) n));
+    final = last;
+  }
     where
       last : (x : List ℕ) → P x → Q (after x (words t base l))
       last x p = q x p _ (fills-over f x t base b (r x p))
@@ -81,7 +86,8 @@ pub record Begun (img : List ℕ) (lo n : ℕ) (x : List ℕ) : Type 0 where
   pub outside : (p : ℕ) → (lo ≤ p → p < lo + 32 * n → ⊥) → getD x p 0 ≡ getD img p 0
   pub gap : (p : ℕ) → lo + 16 ≤ p → p < lo + 24 → getD x p 0 ≡ getD img p 0
 
-pub phase-slots : {P Q M : List ℕ → Type 0} {W : List ℕ → List ℕ → Type 0} → ((a b : List ℕ) → M a → M b → W a b) → ((a b : List ℕ) → M a → Q b → W a b) →
+pub phase-slots : {P Q M : List ℕ → Type 0} {W : List ℕ → List ℕ → Type 0} →
+    ((a b : List ℕ) → M a → M b → W a b) → ((a b : List ℕ) → M a → Q b → W a b) →
     (t : List ℕ) (base lo n : ℕ) → base ≤ lo → ((x : List ℕ) → P x → lo + 32 * n ≤ length x) →
     ((x : List ℕ) → P x → (y : List ℕ) → Begun x lo n y → M y) →
     ((x : List ℕ) → P x → (y : List ℕ) → Over x t base lo (lo + 32 * n) y → Q y) →

@@ -45,16 +45,20 @@ pub record Demand3 (x : List ℕ) (cs : List Call) : Type 0 where
   -- the image opens: after the run, and at each of its moments
   pub opens : verdict (afterRun x cs) ≡ 0
   pub always : {m : List ℕ} → Moment x cs m → verdict m ≡ 0
-  -- From here to `grows`: between any two moments, and so from each moment to the run's end.
-  -- Everything ever found is found unchanged: the same entry, and the same bytes of its chunk
-  pub kept : {m n : List ℕ} → Follows x cs m n → (frame : ℕ) (name : List ℕ) (e : Entry) → lookup m frame name ≡ Listed.Found e → lookup n frame name ≡ Listed.Found e
-  pub chunk : {m n : List ℕ} → Follows x cs m n → (frame : ℕ) (name : List ℕ) (e : Entry) → lookup m frame name ≡ Listed.Found e → chunkOf n e ≡ chunkOf m e
+  -- From a moment to any later one, the run's end among them (`end-follows` in proofs/Runs.antt):
+  -- everything ever found is found unchanged: the same entry, and the same bytes of its chunk
+  pub kept : {m n : List ℕ} → Follows x cs m n → (frame : ℕ) (name : List ℕ) (e : Entry) →
+      lookup m frame name ≡ Listed.Found e → lookup n frame name ≡ Listed.Found e
+  pub chunk : {m n : List ℕ} → Follows x cs m n → (frame : ℕ) (name : List ℕ) (e : Entry) →
+      lookup m frame name ≡ Listed.Found e → chunkOf n e ≡ chunkOf m e
   -- the same entry is the same in all 32 bytes
-  pub bytes : {m n : List ℕ} → Follows x cs m n → (i : ℕ) → i < length (entriesOf m) → part n (layoutOf n .index + 32 * i) 32 ≡ part m (layoutOf m .index + 32 * i) 32
+  pub bytes : {m n : List ℕ} → Follows x cs m n → (i : ℕ) → i < length (entriesOf m) →
+      part n (layoutOf n .index + 32 * i) 32 ≡ part m (layoutOf m .index + 32 * i) 32
   -- older frame: any number below the number of frames at that moment. Nothing appears there; a new name may turn 41 into
   -- 42, and nothing turns 42 into 41
   pub absent : {m n : List ℕ} → Follows x cs m n → (frame : ℕ) (name : List ℕ) → frame < frames m → Absent m frame name → Absent n frame name
-  pub named : {m n : List ℕ} → Follows x cs m n → (frame : ℕ) (name : List ℕ) → listedNumber (lookup m frame name) ≡ 42 → listedNumber (lookup n frame name) ≡ 42
+  pub named : {m n : List ℕ} → Follows x cs m n → (frame : ℕ) (name : List ℕ) →
+      listedNumber (lookup m frame name) ≡ 42 → listedNumber (lookup n frame name) ≡ 42
   -- the number of frames never falls; within an append it is that of the beginning until the last store
   pub grows : {m n : List ℕ} → Follows x cs m n → frames m ≤ frames n
   pub steady : {y : List ℕ} {c : Call} → Begins x cs y c → (k : ℕ) → k < length (storesFor y (c .sheet)) → frames (afterStores y c k) ≡ frames y

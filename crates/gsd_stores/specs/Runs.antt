@@ -46,8 +46,10 @@ pub data Moment : List ℕ → List Call → List ℕ → Type 0 where
 -- behind that call; or both lie behind it
 pub data Follows : List ℕ → List Call → List ℕ → List ℕ → Type 0 where
   fromStart : {x : List ℕ} {cs : List Call} {n : List ℕ} → Moment x cs n → Follows x cs x n
-  inCall : {x : List ℕ} {c : Call} {cs : List Call} (k l : ℕ) → k ≤ l → l ≤ storesMade x c → Follows x (c ∷ cs) (afterStores x c k) (afterStores x c l)
-  fromCall : {x : List ℕ} {c : Call} {cs : List Call} {n : List ℕ} (k : ℕ) → k ≤ storesMade x c → Moment (afterCall x c) cs n → Follows x (c ∷ cs) (afterStores x c k) n
+  inCall : {x : List ℕ} {c : Call} {cs : List Call} (k l : ℕ) → k ≤ l → l ≤ storesMade x c →
+      Follows x (c ∷ cs) (afterStores x c k) (afterStores x c l)
+  fromCall : {x : List ℕ} {c : Call} {cs : List Call} {n : List ℕ} (k : ℕ) → k ≤ storesMade x c → Moment (afterCall x c) cs n →
+      Follows x (c ∷ cs) (afterStores x c k) n
   bothLater : {x : List ℕ} {c : Call} {cs : List Call} {m n : List ℕ} → Follows (afterCall x c) cs m n → Follows x (c ∷ cs) m n
 
 -- `Begins x cs y c` says that the call c is one of the run cs from x, and y is the image as it begins
