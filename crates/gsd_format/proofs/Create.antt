@@ -44,6 +44,7 @@ module _ (len : ℕ) (application schema : List ℕ) (slots segments : ℕ) wher
 
 -- a slice of len bytes takes a fresh image with these texts and so many slots and segments
 pub record Takes (len : ℕ) (application schema : List ℕ) (slots segments : ℕ) : Type 0 where
+  pub short : len ≤ greatestLength
   pub few-slots : slots ≤ 65536
   pub few-segments : segments ≤ 65536
   pub short-application : length application ≤ 63
@@ -61,6 +62,7 @@ takes len a s slots segments h =
     let blocks = neither _ _ (unmet _ 49 (both _ _ numbers .0)) in
     let good = neither _ _ (unmet _ 50 (both _ _ texts .0)) in
     record {
+      short = not-less greatestLength len 1 (both _ _ h .0);
       few-slots = ltb-false 65536 slots (blocks .0);
       few-segments = ltb-false 65536 segments (blocks .1);
       short-application = text-length a (good .0);

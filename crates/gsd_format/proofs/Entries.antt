@@ -78,7 +78,7 @@ pub record IsEntries (x : List ℕ) (at n : ℕ) (es : List Entry) : Type 0 wher
   pub closed : length es < n → le 8 x (at + 32 * length es + 16) ≡ 0
 
 -- no entry is listed where there is no slot, or the first has location 0
-is-none : (x : List ℕ) (at n : ℕ) → (0 < n → le 8 x (at + 16) ≡ 0) → IsEntries x at n []
+pub is-none : (x : List ℕ) (at n : ℕ) → (0 < n → le 8 x (at + 16) ≡ 0) → IsEntries x at n []
 is-none x at n h = record {
   few = omega arith;
   each = λ i l. absurd (omega arith);

@@ -12,5 +12,6 @@ pub mod Verdict
 pub mod Lookup
 pub mod Listing
 pub mod Create
+pub mod Fresh
 pub mod Elements
 pub mod Calls

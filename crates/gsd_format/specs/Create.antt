@@ -1,12 +1,15 @@
 -- A fresh image: header, an empty index block at 256, an empty name block straight after; and create's numbers.
 use Prim.Native.Nat.{ℕ, zero, suc, _+_, _*_, _-_}
+use mathlib.Core.Path.{_≡_}
 use mathlib.Core.List.{List, _++_}
 use mathlib.Core.Bool.{Bool, _||_}
 use lib.ListN.{length, drop}
 use lib.Dec.{ltb}
-use Rattle.gsd_format.specs.Bytes.{leBytes, zeroIn, zeros}
+use Rattle.gsd_format.specs.declared.Opening.{Opening}
+use Rattle.gsd_format.specs.Bytes.{le, leBytes, part, zeroIn, zeros}
 use Rattle.gsd_format.specs.Refusals.{_⇒_, _▹_}
-use Rattle.gsd_format.specs.Header.{magic, version, headerSize, greatestLength}
+use Rattle.gsd_format.specs.Header.{magic, version, headerSize, greatestLength, versionOf, layoutOf}
+use Rattle.gsd_format.specs.Opening.{opening}
 
 -- how many slots and segments 0 stands for, each by itself
 abbrev pub defaultSlots : ℕ
@@ -64,3 +67,16 @@ created slice application schema schemaVersion slots segments =
       | zero ↦ fresh slice application schema schemaVersion (orDefault slots defaultSlots) (orDefault segments defaultSegments)
       | suc k ↦ slice
     ]
+
+-- What a fresh image is: it opens with no frames, names and entries, its header is as asked, and behind its blocks the slice
+-- is as it was. Its layout says that its length is the slice's
+pub record Fresh (slice application schema : List ℕ) (schemaVersion slots segments : ℕ) (img : List ℕ) : Type 0 where
+  pub opens : opening img ≡ Opening.Open (record { frames = 0; names = 0; entries = 0 })
+  pub layout : layoutOf img ≡ record { len = length slice; index = headerSize; slots = slots; namelist = headerSize + 32 * slots; segments = segments }
+  pub fileVersion : versionOf img ≡ version
+  pub sameVersion : le 4 img 40 ≡ schemaVersion
+  pub sameApplication : part img 48 64 ≡ filled application
+  pub sameSchema : part img 112 64 ≡ filled schema
+  pub reserved : part img 176 80 ≡ zeros 80
+  pub blocks : part img headerSize (32 * slots + 64 * segments) ≡ zeros (32 * slots + 64 * segments)
+  pub behind : drop (freshLength slots segments) img ≡ drop (freshLength slots segments) slice

@@ -3,6 +3,8 @@ use Prim.Native.Nat.{ℕ}
 use mathlib.Core.Path.{_≡_}
 use mathlib.Core.List.{List}
 use Rattle.gsd_format.specs.Opening.{verdict}
+use Rattle.gsd_format.specs.Create.{createNumber, created}
+use Rattle.gsd_format.proofs.Fresh.{created-opens}
 use Rattle.gsd_stores.specs.Sheet.{rowsOf}
 use Rattle.gsd_stores.specs.Append.{appendTest}
 use Rattle.gsd_stores.specs.Runs.{Bytes, Call}
@@ -17,3 +19,9 @@ accepted x s o h = let ok : Valid x (rowsOf s) = valid x s o h in moments x s h 
 
 pub demand3 : (x : List ℕ) (cs : List Call) → verdict x ≡ 0 → Demand3 x cs
 demand3 x cs o = all-fields accepted x cs o
+
+-- a run can start from a created image, whatever create was asked for
+pub created-run : (slice application schema : List ℕ) (schemaVersion slots segments : ℕ) → createNumber slice application schema slots segments ≡ 0 →
+    (cs : List Call) → Demand3 (created slice application schema schemaVersion slots segments) cs
+created-run slice application schema schemaVersion slots segments n cs =
+    demand3 _ cs (created-opens slice application schema schemaVersion slots segments n)
