@@ -1,5 +1,5 @@
 -- Demand 3 about the append of this crate: from any image that opens, over any calls of it one after the other.
-use Prim.Native.Nat.{ℕ, _≤_, min}
+use Prim.Native.Nat.{ℕ, _≤_}
 use mathlib.Core.Path.{_≡_, refl, sym, _∙_, ap, subst}
 use mathlib.Core.Bool.{true}
 use mathlib.Core.List.{List, [], _∷_}
@@ -10,7 +10,7 @@ use Rattle.gsd_format.specs.Opening.{verdict}
 use Rattle.gsd_format.proofs.Refusals.{both-true, both-of}
 use Rattle.gsd_stores.specs.declared.Appended.{Appended}
 use Rattle.gsd_stores.specs.Append.{storesFor, appendAnswer, appended}
-use Rattle.gsd_stores.specs.Runs.{Call, Moment, during, afterRun, lastStoreMade}
+use Rattle.gsd_stores.specs.Runs.{Call, storesMade, afterStores, Moment, during, Follows, inCall, afterRun, lastStoreMade}
 use Rattle.gsd_stores.specs.Demand3.{Demand3}
 use Rattle.gsd_stores.proofs.Limits.{stopped}
 use Rattle.gsd_stores.proofs.Demand3.{demand3}
@@ -37,10 +37,21 @@ pub record Kept (x : List ℕ) (cs : List Call) (z : List ℕ) : Type 0 where
 pub append-keeps : {x z : List ℕ} {cs : List Call} → verdict x ≡ 0 → Calls x cs z → Kept x cs z
 append-keeps {x} {cs = cs} o q = record { left = calls-run q; demand = demand3 x cs o }
 
--- A moment of the run, in terms of calls: what a call with a smaller limit would have left
-pub append-moment : {x y : List ℕ} {c : Call} {cs : List Call} (k : ℕ) → k ≤ min (c .limit) (length (storesFor x (c .sheet))) →
-    (r : Appended) → Promised x (record { sheet = c .sheet; bytes = c .bytes; limit = k }) r y → Moment x (c ∷ cs) y
-append-moment {x} {y} {c} {cs} k h r p = subst (Moment x (c ∷ cs)) (stopped x (c .sheet) k ∙ sym (p .1)) (during k h)
+-- A moment of the run, in terms of calls: what a call with a smaller limit would have left. Of two such the one with the greater
+-- limit follows
+abbrev pub stoppedAt : Call → ℕ → Call
+stoppedAt c k = record { sheet = c .sheet; bytes = c .bytes; limit = k }
+
+left-at : (x y : List ℕ) (c : Call) (r : Appended) (k : ℕ) → Promised x (stoppedAt c k) r y → afterStores x c k ≡ y
+left-at x y c r k p = stopped x (c .sheet) k ∙ sym (p .1)
+
+pub append-moment : {x y : List ℕ} {c : Call} {cs : List Call} (k : ℕ) → k ≤ storesMade x c → (r : Appended) → Promised x (stoppedAt c k) r y →
+    Moment x (c ∷ cs) y
+append-moment {x} {y} {c} {cs} k h r p = subst (Moment x (c ∷ cs)) (left-at x y c r k p) (during k h)
+
+pub append-follows : {x y z : List ℕ} {c : Call} {cs : List Call} (k l : ℕ) → k ≤ l → l ≤ storesMade x c → (r s : Appended) →
+    Promised x (stoppedAt c k) r y → Promised x (stoppedAt c l) s z → Follows x (c ∷ cs) y z
+append-follows {x} {y} {z} {c} k l h g r s p q = rw (← left-at x y c r k p, ← left-at x z c s l q) (inCall k l h g)
 
 -- The last store was made exactly when the answer says so
 module _ (x y : List ℕ) (c : Call) (r : Appended) (p : Promised x c r y) where

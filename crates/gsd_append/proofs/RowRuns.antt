@@ -38,7 +38,7 @@ use Rattle.gsd_append.specs.Matches.{BodyMatch, EntryMatch}
 use Rattle.gsd_runs.proofs.Words.{over-below, over-inside, over-above}
 use Rattle.gsd_append.proofs.Octets.{text-octets, octets-append, flat-octets, bodies-octets, index-octets}
 use Rattle.gsd_append.proofs.RunWords.{number-stores, body-stores, name-stores}
-use Rattle.gsd_append.proofs.Makes.{Makes, AnyImage, AnyStore, Always, _⨾_, makes-none}
+use Rattle.gsd_append.proofs.Makes.{Makes, AnyStore, Always, _⨾_, makes-none}
 use Rattle.gsd_append.proofs.Blocks.{text-cut}
 
 -- Step 2

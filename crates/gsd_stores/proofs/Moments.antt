@@ -5,7 +5,7 @@ use mathlib.Core.Path.{_≡_, refl, sym, _∙_, ap}
 use mathlib.Core.List.{List, [], _++_, append-assoc, append-nil}
 use native.Mathlib.Omega.{arith}
 use lib.ListN.{length, take, drop, length-append, length-take}
-use lib.Seq.{take-length, take-add, take-append-add, getD-append-add}
+use lib.Seq.{take-add, take-append-add, getD-append-add}
 use Rattle.gsd_format.specs.Entries.{framesOf}
 use Rattle.gsd_format.specs.Opening.{verdict, mostNames}
 use Rattle.gsd_format.specs.Lookup.{none}
@@ -23,7 +23,7 @@ use Rattle.gsd_stores.proofs.Good.{Good, ready as readyView}
 use Rattle.gsd_stores.proofs.Plan.{EndOfUse, positions}
 use Rattle.gsd_stores.proofs.Valid.{Valid, Ready, ready}
 use Rattle.gsd_stores.proofs.NewEntries.{Final}
-use Rattle.gsd_stores.proofs.Whole.{SoFar, AllPass, whole-append}
+use Rattle.gsd_stores.proofs.Whole.{SoFar, all-named, AllPass, whole-append}
 use Rattle.gsd_stores.proofs.Shown.{Legal, shown-opens, shown-entries, opens-shown, opens-legal, extends-keep}
 use Rattle.gsd_stores.proofs.Complete.{frame-complete}
 use Rattle.gsd_stores.proofs.Runs.{Stored, Grown, Accepted}
@@ -119,7 +119,7 @@ module _ (x : List ℕ) (rs : List Row) (ok : Valid x rs) where
 
   -- the view before the last store
   all-names : SoFar v p (length (p .fresh)) (readyView v p)
-  all-names = record { len = refl; entries = refl; names = ap (λ ns. v .names ++ ns) (sym (take-length (p .fresh))) }
+  all-names = all-named (readyView v p .layout) refl
 
   final-opens : (y : List ℕ) → Final x (readyView v p) (p .entries) (p .start) (p .body) y → verdict y ≡ 0
   final-opens y f = shown-opens (f .is) (record { few = r .fewNames; distinct = r .distinct; ordered = r .ordered })

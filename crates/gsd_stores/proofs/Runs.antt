@@ -2,6 +2,7 @@
 use Prim.Native.Nat.{ℕ, zero, suc, _+_, _-_, _≤_, _<_, min}
 use mathlib.Core.Path.{_≡_, refl, sym, _∙_, ap}
 use mathlib.Core.Bool.{Bool, true, false, true≢false}
+use mathlib.Core.Logic.{_⊎_, inl, inr}
 use mathlib.Core.List.{List, [], _∷_}
 use native.Mathlib.Nat.{zero-add, suc-add, add-zero}
 use native.Mathlib.Decide.{ℕ-discrete, decLt, decLe}
@@ -107,6 +108,20 @@ follows-second (fromStart t) = t
 follows-second (inCall k l h g) = during l g
 follows-second (fromCall k h t) = later t
 follows-second (bothLater f) = later (follows-second f)
+
+-- and of any two moments one follows the other
+stores-ordered : {x : List ℕ} {c : Call} {cs : List Call} {n : List ℕ} (k : ℕ) → k ≤ storesMade x c → Moment x (c ∷ cs) n →
+    Follows x (c ∷ cs) (afterStores x c k) n ⊎ Follows x (c ∷ cs) n (afterStores x c k)
+stores-ordered k h start = inr (fromStart (during k h))
+stores-ordered k h (during l g) = elim (decLe k l) [ yes o ↦ inl (inCall k l o g) | no o ↦ inr (inCall l k (omega arith) h) ]
+stores-ordered k h (later u) = inl (fromCall k h u)
+
+pub moments-ordered : {x : List ℕ} {cs : List Call} {m n : List ℕ} → Moment x cs m → Moment x cs n → Follows x cs m n ⊎ Follows x cs n m
+moments-ordered start u = inl (fromStart u)
+moments-ordered (during k h) u = stores-ordered k h u
+moments-ordered (later t) start = inr (fromStart (later t))
+moments-ordered (later t) (during k h) = inr (fromCall k h t)
+moments-ordered (later t) (later u) = elim (moments-ordered t u) [ inl f ↦ inl (bothLater f) | inr f ↦ inr (bothLater f) ]
 
 module _ (accepted : (x s : List ℕ) → Bytes s → appendTest x s ≡ 0 → Accepted x s) where
   -- One call

@@ -46,6 +46,13 @@ pub record SoFar (v : View) (p : Plan) (j : ℕ) (u : View) : Type 0 where
   pub entries : u .entries ≡ v .entries
   pub names : u .names ≡ v .names ++ take j (p .fresh)
 
+-- before the first new name, and behind the last
+none-named : {v : View} {p : Plan} (l : Layout) → l .len ≡ v .layout .len → SoFar v p 0 (withLayout v l)
+none-named {v} l e = record { len = e; entries = refl; names = sym (append-nil (v .names)) }
+
+pub all-named : {v : View} {p : Plan} (l : Layout) → l .len ≡ v .layout .len → SoFar v p (length (p .fresh)) (withLayout (named v p) l)
+all-named {v} {p} l e = record { len = e; entries = refl; names = ap (λ bs. v .names ++ bs) (sym (take-length (p .fresh))) }
+
 -- W from some of the new names to no fewer
 abbrev pub AllPass : List ℕ → (List ℕ → List ℕ → Type 0) → View → Plan → Type 0
 AllPass x₀ W v p = (u w : View) (i j : ℕ) → i ≤ j → SoFar v p i u → SoFar v p j w → Passes x₀ W u w
@@ -89,18 +96,9 @@ module _ {v : View} {p : Plan} (g : Good v p) where
       ⨾ store-entries (p .entries) (p .start) (p .body) (behind (ready v p .layout) (ready v p .layout) refl refl) last
       (g .entriesFit) (g .sound) (g .exact) (room-ready .offIndex)
     where
-      -- before the first new name and behind the last
       before : Quiet x₀ W v
-      before l m a b = passes (withLayout v l) (withLayout v m) 0 0 (omega arith) (none l a) (none m b)
-        where
-          none : (l : Layout) → l .len ≡ v .layout .len → SoFar v p 0 (withLayout v l)
-          none l e = record { len = e; entries = refl; names = sym (append-nil (v .names)) }
+      before l m a b = passes (withLayout v l) (withLayout v m) 0 0 (omega arith) (none-named l a) (none-named m b)
 
       behind : Quiet x₀ W (named v p)
-      behind l m a b = passes (withLayout (named v p) l) (withLayout (named v p) m) n n (omega arith) (all l a) (all m b)
-        where
-          n : ℕ
-          n = length (p .fresh)
-
-          all : (l : Layout) → l .len ≡ v .layout .len → SoFar v p n (withLayout (named v p) l)
-          all l e = record { len = e; entries = refl; names = ap (λ bs. v .names ++ bs) (sym (take-length (p .fresh))) }
+      behind l m a b =
+          passes (withLayout (named v p) l) (withLayout (named v p) m) (length (p .fresh)) (length (p .fresh)) (omega arith) (all-named l a) (all-named m b)
