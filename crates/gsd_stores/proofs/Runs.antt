@@ -225,23 +225,39 @@ module _ (accepted : (x s : List ℕ) → Bytes s → appendTest x s ≡ 0 → A
       go r (made h) = rw (run-more x c cs, completed-made x c cs h) (omega (arith, r, call-whole x c h .more))
       go r (part h) = rw (run-more x c cs, completed-not x c cs h) (omega (arith, r, call-part x c h))
 
-  each-complete : (cs : List Call) (x : List ℕ) → verdict x ≡ 0 → (i : ℕ) → i < length (completed x cs) → Complete (afterRun x cs) (frames x + i) (getD (completed x cs) i [])
-  each-complete [] x o i l = absurd (omega (arith, ap length (completed-none x)))
-  each-complete (c ∷ cs) x o i l = go (each-complete cs (afterCall x c) (done-opens x c o)) (which (lastStoreMade x c)) i l
+  -- a frame of the run that is there is complete: at a moment of a call, and at any moment
+  call-complete : (x : List ℕ) (c : Call) (cs : List Call) (k : ℕ) → k ≤ storesMade x c → (i : ℕ) → frames x + i < frames (afterStores x c k) →
+      Complete (afterStores x c k) (frames x + i) (getD (completed x (c ∷ cs)) i [])
+  call-complete x c cs k h = go (ℕ-discrete (appendTest x (c .sheet)) 0) (decLt k (length (storesFor x (c .sheet))))
     where
-      go : ((i : ℕ) → i < length (completed (afterCall x c) cs) → Complete (afterRun (afterCall x c) cs) (frames (afterCall x c) + i) (getD (completed (afterCall x c) cs) i [])) →
-          Made (lastStoreMade x c) → (i : ℕ) → i < length (completed x (c ∷ cs)) → Complete (afterRun x (c ∷ cs)) (frames x + i) (getD (completed x (c ∷ cs)) i [])
-      go r (part h) i l =
-          let q : i < length (completed (afterCall x c) cs) = rw (completed-not x c cs h) at l in
-          rw (run-more x c cs, completed-not x c cs h, ← call-part x c h) (r i q)
-      go r (made h) zero l =
+      go : Dec (appendTest x (c .sheet) ≡ 0) → Dec (k < length (storesFor x (c .sheet))) → (i : ℕ) → frames x + i < frames (afterStores x c k) →
+          Complete (afterStores x c k) (frames x + i) (getD (completed x (c ∷ cs)) i [])
+      go d (yes l) i f = absurd (omega (arith, call-frames x c k l))
+      go (yes e) (no l) zero f =
+          rw (completed-made x c cs (both-made x c e (omega arith)), add-zero, take-all k (storesFor x (c .sheet)) (omega arith))
+          (accepted x (c .sheet) (c .bytes) e .last .complete)
+      go (yes e) (no l) (suc i) f =
+          let more = accepted x (c .sheet) (c .bytes) e .last .more in
+          absurd (omega (arith, more, ap (λ ss. frames (after x ss)) (take-all k (storesFor x (c .sheet)) (omega arith))))
+      go (no e) (no l) i f = absurd (omega (arith, ap frames (refused-keeps x (c .sheet) k e)))
+
+  moment-complete : {x : List ℕ} {cs : List Call} {n : List ℕ} → Moment x cs n → verdict x ≡ 0 → (i : ℕ) → frames x + i < frames n →
+      Complete n (frames x + i) (getD (completed x cs) i [])
+  moment-complete start o i f = absurd (omega arith)
+  moment-complete (during {x = x} {c = c} {cs = cs} k h) o i f = call-complete x c cs k h i f
+  moment-complete (later {x = x} {c = c} {cs = cs} {m = n} t) o i f =
+      go (λ j g. moment-complete t (done-opens x c o) j g) (which (lastStoreMade x c)) i f
+    where
+      go : ((i : ℕ) → frames (afterCall x c) + i < frames n → Complete n (frames (afterCall x c) + i) (getD (completed (afterCall x c) cs) i [])) →
+          Made (lastStoreMade x c) → (i : ℕ) → frames x + i < frames n → Complete n (frames x + i) (getD (completed x (c ∷ cs)) i [])
+      go r (part h) i f = rw (completed-not x c cs h, ← call-part x c h) (r i (omega (arith, call-part x c h)))
+      go r (made h) zero f =
           let g : Grown x (rowsOf (c .sheet)) (afterCall x c) = call-whole x c h in
-          rw (run-more x c cs, completed-made x c cs h, add-zero)
-          (complete-kept (afterCall x c) _ (moment-keeps (end-moment (afterCall x c) cs)) (moment-opens (end-moment (afterCall x c) cs) (g .opens)) (frames x) (rowsOf (c .sheet)) (omega (arith, g .more)) (g .complete))
-      go r (made h) (suc i) l =
-          let q : suc i < length (rowsOf (c .sheet) ∷ completed (afterCall x c) cs) = rw (completed-made x c cs h) at l in
+          rw (completed-made x c cs h, add-zero)
+          (complete-kept (afterCall x c) n (moment-keeps t) (moment-opens t (g .opens)) (frames x) (rowsOf (c .sheet)) (omega (arith, g .more)) (g .complete))
+      go r (made h) (suc i) f =
           let e : frames x + suc i ≡ frames (afterCall x c) + i = omega (arith, call-whole x c h .more) in
-          rw (run-more x c cs, completed-made x c cs h, e) (r i (omega arith))
+          rw (completed-made x c cs h, e) (r i (omega arith))
 
   -- the claim about the whole run
   pub all-fields : (x : List ℕ) (cs : List Call) → verdict x ≡ 0 → Demand3 x cs
@@ -256,7 +272,7 @@ module _ (accepted : (x s : List ℕ) → Bytes s → appendTest x s ≡ 0 → A
     grows = λ t. follows-keeps t .grow;
     steady = λ {y} {c} b k l. call-frames y c k l;
     counted = counted cs x;
-    complete = each-complete cs x o;
+    complete = λ t. moment-complete t o;
     thereIf = λ {y} {c} b h. omega (arith, call-whole y c h .more);
     thereOnlyIf = λ {y} {c} b h. only y c h (which (lastStoreMade y c));
   }

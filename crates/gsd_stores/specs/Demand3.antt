@@ -62,9 +62,10 @@ pub record Demand3 (x : List ℕ) (cs : List Call) : Type 0 where
   -- the number of frames never falls; within an append it is that of the beginning until the last store
   pub grows : {m n : List ℕ} → Follows x cs m n → frames m ≤ frames n
   pub steady : {y : List ℕ} {c : Call} → Begins x cs y c → (k : ℕ) → k < length (storesFor y (c .sheet)) → frames (afterStores y c k) ≡ frames y
-  -- the i-th append whose last store was made, from 0, has the frame numbered i plus the number of frames at the start
+  -- the i-th append whose last store was made, from 0, has the frame numbered i plus the number of frames at the start. At
+  -- every moment at which it is there it is complete
   pub counted : frames (afterRun x cs) ≡ frames x + length (completed x cs)
-  pub complete : (i : ℕ) → i < length (completed x cs) → Complete (afterRun x cs) (frames x + i) (getD (completed x cs) i [])
+  pub complete : {n : List ℕ} → Moment x cs n → (i : ℕ) → frames x + i < frames n → Complete n (frames x + i) (getD (completed x cs) i [])
   -- new frame of an append: the number of frames as it begins; it is there when the number of frames is greater.
   -- It is there if and only if the append's last store was made
   pub thereIf : {y : List ℕ} {c : Call} → Begins x cs y c → lastStoreMade y c ≡ true → frames y < frames (afterCall y c)
