@@ -50,6 +50,14 @@ module _ {A : Type 0} (refused : ℕ → A) where
   last true k x = refl
   last false k x = refl
 
+  -- the opening's number, then a test's
+  nth : (v : ℕ) (t : Bool) (k : ℕ) (x : A) → elim v [ zero ↦ elim t [ true ↦ x | false ↦ refused (suc k) ] | suc j ↦ refused (suc j) ]
+      ≡ by (v ▹ (not t ⇒ suc k)) x
+  unfolding by _⇒_ _▹_
+  nth zero true k x = refl
+  nth zero false k x = refl
+  nth (suc v) t k x = refl
+
   module _ (number : A → ℕ) (values : A → List ℕ) (numbered : (n : ℕ) → number (refused n) ≡ n) (empty : (n : ℕ) → values (refused n) ≡ [])
       (x : A) (good : number x ≡ 0) where
     by-number : (n : ℕ) → number (by n x) ≡ n
@@ -67,10 +75,10 @@ module _ {A : Type 0} (refused : ℕ → A) where
     says n a r e h = (h, (ap number (h ∙ e) ∙ by-number n, ap values (h ∙ e) ∙ by-values n))
 
     -- no refusal has the number 0
-    numbers : (values x ≡ [] → ⊥) → (n : ℕ) (a : A) → a ≡ by n x → a ≡ refused 0 → ⊥
+    never-0 : (values x ≡ [] → ⊥) → (n : ℕ) (a : A) → a ≡ by n x → a ≡ refused 0 → ⊥
     unfolding by
-    numbers some zero a e h = some (ap values (sym e ∙ h) ∙ empty 0)
-    numbers some (suc n) a e h = let z : suc n ≡ 0 = sym (numbered (suc n)) ∙ ap number (sym e ∙ h) ∙ numbered 0 in omega arith
+    never-0 some zero a e h = some (ap values (sym e ∙ h) ∙ empty 0)
+    never-0 some (suc n) a e h = let z : suc n ≡ 0 = sym (numbered (suc n)) ∙ ap number (sym e ∙ h) ∙ numbered 0 in omega arith
 
 -- a list that has a first is not empty
 some : (v : ℕ) (vs : List ℕ) → v ∷ vs ≡ [] → ⊥
@@ -92,42 +100,38 @@ pub opening-says : (img : List ℕ) (r : Opening) → r ≡ opening img →
 unfolding openingNumber openingValues countsOf
 opening-says img r = says Opening.Refused openingNumber openingValues (λ n. refl) (λ n. refl) _ refl _ _ r (opening-by img)
 
-pub opening-numbers : (img : List ℕ) → opening img ≡ Opening.Refused 0 → ⊥
+pub opening-never-0 : (img : List ℕ) → opening img ≡ Opening.Refused 0 → ⊥
 unfolding openingNumber openingValues
-opening-numbers img = numbers Opening.Refused openingNumber openingValues (λ n. refl) (λ n. refl) _ refl (some _ _) _ _ (opening-by img)
+opening-never-0 img = never-0 Opening.Refused openingNumber openingValues (λ n. refl) (λ n. refl) _ refl (some _ _) _ _ (opening-by img)
 
 -- The n-th entry and the n-th name
 
 module _ (img : List ℕ) (n : ℕ) where
   entry-by : nthEntry img n ≡ by Listed.Refused (nthEntryTest img n) (Listed.Found (getD (entriesOf img) n none))
   unfolding nthEntry
-  entry-by =
-      ap (λ l. elim (verdict img) [ zero ↦ l | suc k ↦ Listed.Refused (suc k) ]) (last Listed.Refused (ltb n (length (entriesOf img))) 43 _)
-      ∙ opened Listed.Refused (verdict img) _ _
+  entry-by = nth Listed.Refused (verdict img) (ltb n (length (entriesOf img))) 43 _
 
   pub entry-says : (r : Listed) → r ≡ nthEntry img n →
       (r ≡ nthEntry img n) × ((listedNumber r ≡ nthEntryTest img n) × (listedValues r ≡ nthEntryValues img n))
   unfolding listedNumber listedValues
   entry-says r = says Listed.Refused listedNumber listedValues (λ n. refl) (λ n. refl) _ refl _ _ r entry-by
 
-  pub entry-numbers : nthEntry img n ≡ Listed.Refused 0 → ⊥
+  pub entry-never-0 : nthEntry img n ≡ Listed.Refused 0 → ⊥
   unfolding listedNumber listedValues
-  entry-numbers = numbers Listed.Refused listedNumber listedValues (λ n. refl) (λ n. refl) _ refl (some _ _) _ _ entry-by
+  entry-never-0 = never-0 Listed.Refused listedNumber listedValues (λ n. refl) (λ n. refl) _ refl (some _ _) _ _ entry-by
 
   name-by : nthName img n ≡ by Place.Refused (nthNameTest img n) (Place.At (getD (nameParts img) n nowhere))
   unfolding nthName
-  name-by =
-      ap (λ l. elim (verdict img) [ zero ↦ l | suc k ↦ Place.Refused (suc k) ]) (last Place.Refused (ltb n (length (nameParts img))) 43 _)
-      ∙ opened Place.Refused (verdict img) _ _
+  name-by = nth Place.Refused (verdict img) (ltb n (length (nameParts img))) 43 _
 
   pub name-says : (r : Place) → r ≡ nthName img n →
       (r ≡ nthName img n) × ((placeNumber r ≡ nthNameTest img n) × (placeValues r ≡ nthNameValues img n))
   unfolding placeNumber placeValues
   name-says r = says Place.Refused placeNumber placeValues (λ n. refl) (λ n. refl) _ refl _ _ r name-by
 
-  pub name-numbers : nthName img n ≡ Place.Refused 0 → ⊥
+  pub name-never-0 : nthName img n ≡ Place.Refused 0 → ⊥
   unfolding placeNumber placeValues
-  name-numbers = numbers Place.Refused placeNumber placeValues (λ n. refl) (λ n. refl) _ refl (some _ _) _ _ name-by
+  name-never-0 = never-0 Place.Refused placeNumber placeValues (λ n. refl) (λ n. refl) _ refl (some _ _) _ _ name-by
 
 -- The lookup, and what passes on its number
 
@@ -178,9 +182,9 @@ module _ (img : List ℕ) (frame : ℕ) (name : List ℕ) where
   unfolding listedNumber listedValues
   lookup-says r = says Listed.Refused listedNumber listedValues (λ n. refl) (λ n. refl) _ refl _ _ r lookup-by
 
-  pub lookup-numbers : lookup img frame name ≡ Listed.Refused 0 → ⊥
+  pub lookup-never-0 : lookup img frame name ≡ Listed.Refused 0 → ⊥
   unfolding listedNumber listedValues
-  lookup-numbers = numbers Listed.Refused listedNumber listedValues (λ n. refl) (λ n. refl) _ refl (some _ _) _ _ lookup-by
+  lookup-never-0 = never-0 Listed.Refused listedNumber listedValues (λ n. refl) (λ n. refl) _ refl (some _ _) _ _ lookup-by
 
   place-by : chunkPlace img frame name ≡ by Place.Refused (lookupTest img frame name) (Place.At (chunkPart (foundEntry img frame name)))
   unfolding chunkPlace placed by
@@ -196,9 +200,9 @@ module _ (img : List ℕ) (frame : ℕ) (name : List ℕ) where
   unfolding placeNumber placeValues
   place-says r = says Place.Refused placeNumber placeValues (λ n. refl) (λ n. refl) _ refl _ _ r place-by
 
-  pub place-numbers : chunkPlace img frame name ≡ Place.Refused 0 → ⊥
+  pub place-never-0 : chunkPlace img frame name ≡ Place.Refused 0 → ⊥
   unfolding placeNumber placeValues
-  place-numbers = numbers Place.Refused placeNumber placeValues (λ n. refl) (λ n. refl) _ refl (some _ _) _ _ place-by
+  place-never-0 = never-0 Place.Refused placeNumber placeValues (λ n. refl) (λ n. refl) _ refl (some _ _) _ _ place-by
 
   -- the element of the entry that is found
   module _ (k : ℕ) where
@@ -225,8 +229,8 @@ module _ (img : List ℕ) (frame : ℕ) (name : List ℕ) where
     element-says r =
         says Element.Refused elementNumber elementValues (λ n. refl) (λ n. refl) there (no-refusal (found .kind) (bitsOf img found k)) _ _ r element-by
 
-    pub element-numbers : element img frame name k ≡ Element.Refused 0 → ⊥
+    pub element-never-0 : element img frame name k ≡ Element.Refused 0 → ⊥
     unfolding elementNumber elementValues
-    element-numbers =
-        numbers Element.Refused elementNumber elementValues (λ n. refl) (λ n. refl) there (no-refusal (found .kind) (bitsOf img found k))
+    element-never-0 =
+        never-0 Element.Refused elementNumber elementValues (λ n. refl) (λ n. refl) there (no-refusal (found .kind) (bitsOf img found k))
         (has-values (found .kind) (bitsOf img found k)) _ _ element-by

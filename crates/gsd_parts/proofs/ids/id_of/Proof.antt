@@ -1,5 +1,4 @@
 -- `gsd_parts::ids::id_of` meets its contract.
-use mathlib.Core.Path.{_∙_}
 use borrow.Author.Needs.{needs}
 use Rattle.gsd_parts.proofs.ids.id_of.Statement.{statement}
 use Rattle.gsd_parts.proofs.ids.id_of.Tie as tie
