@@ -13,8 +13,8 @@ unfoldable pub Inside : List ℕ → Place → Type 0
 Inside img (Place.At p) = p .start + p .size ≤ length img
 Inside img (Place.Refused n) = Unit
 
--- In memory, a slice that is lent at p lies at a place, and the part that is handed out lies at q: it is that part itself, and
--- not another with the same bytes. Where a refusal's empty part lies is free
+-- An image is lent at the pointer p and a part of it handed out at q: it is the part at that place itself, and not another
+-- stretch with the same bytes. Where a refusal's empty part lies is free
 unfoldable pub LiesAt : ℕ × ℕ → Place → ℕ × ℕ → Type 0
 LiesAt p (Place.At a) q = (q .0 ≡ p .0) × (q .1 ≡ p .1 + a .start)
 LiesAt p (Place.Refused n) q = Unit
