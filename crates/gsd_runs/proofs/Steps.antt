@@ -1,11 +1,10 @@
 -- Laws of steps: how many there are, parts of them, what is left at a cursor, and the stores that they make.
-use Prim.Native.Nat.{ℕ, zero, suc, _+_, _-_, _≤_, _<_}
+use Prim.Native.Nat.{ℕ, zero, suc, _+_, _-_, _≤_}
 use mathlib.Core.Path.{_≡_, refl, _∙_, ap}
 use mathlib.Core.List.{List, [], _∷_, _++_, append-assoc}
-use native.Mathlib.Nat.{add-zero, sub-zero, sub-eq-zero-of-le}
-use native.Mathlib.Numerals.{add-one}
+use native.Mathlib.Nat.{add-zero, sub-zero, sub-self, add-sub-cancel-left, sub-eq-zero-of-le}
 use native.Mathlib.Omega.{arith}
-use lib.ListN.{length, take, drop, length-append}
+use lib.ListN.{length, take, drop, length-append, take-append-drop}
 use lib.Seq.{take-append-le, drop-append-le}
 use Rattle.gsd_format.proofs.Bytes.{stored-length}
 use Rattle.gsd_stores.specs.Stores.{after}
@@ -75,18 +74,7 @@ module _ (r : Run) (rs : List Run) (w : ℕ) where
 pub rest-next : (r : Run) (rs : List Run) (w : ℕ) → r .words ≤ w → rest (r ∷ rs) w ≡ rest rs 0
 rest-next r rs w h = rw (rest-more r rs w, sub-eq-zero-of-le h, ← steps-rest rs) (stepsFrom-none r w (steps rs))
 
--- The image after the steps: the words from i to e of a run one by one, and lists in a row
-
-pub exec-next : (sheet img : List ℕ) (r : Run) (i e : ℕ) → i < e
-    → exec sheet img (stepsFrom r i (e - i)) ≡ exec sheet (applied sheet img r i) (stepsFrom r (i + 1) (e - (i + 1)))
-unfolding exec stepsFrom
-exec-next sheet img r i e h =
-    let z : e - i ≡ suc (e - (i + 1)) = omega arith in
-    rw (z, add-one)
-
-pub exec-done : (sheet img : List ℕ) (r : Run) (i e : ℕ) → e ≤ i → exec sheet img (stepsFrom r i (e - i)) ≡ img
-unfolding exec stepsFrom
-exec-done sheet img r i e h = rw (sub-eq-zero-of-le h)
+-- The image after the steps
 
 pub exec-append : (sheet img : List ℕ) (a b : List Step) → exec sheet img (a ++ b) ≡ exec sheet (exec sheet img a) b
 unfolding exec
@@ -97,6 +85,47 @@ pub exec-length : (sheet img : List ℕ) (ss : List Step) → length (exec sheet
 unfolding exec
 exec-length sheet img [] = refl
 exec-length sheet img (s ∷ ss) = exec-length sheet (applied sheet img (s .run) (s .word)) ss ∙ stored-length img _ _
+
+-- The stores of a run's words from w up to i are made: so many, and of img they left img′
+pub record Made (sheet img : List ℕ) (r : Run) (w i : ℕ) (img′ : List ℕ) : Type 0 where
+  pub order : w ≤ i
+  pub image : img′ ≡ exec sheet img (stepsFrom r w (i - w))
+
+module _ (sheet img : List ℕ) (r : Run) (w : ℕ) where
+  pub made-none : Made sheet img r w w img
+  unfolding exec stepsFrom
+  made-none = record { order = omega arith; image = rw sub-self }
+
+  pub made-one : Made sheet img r w (w + 1) (applied sheet img r w)
+  unfolding exec stepsFrom
+  made-one = record { order = omega arith; image = rw add-sub-cancel-left }
+
+  pub made-all : (n : ℕ) (img′ : List ℕ) → Made sheet img r w (w + n) img′ → img′ ≡ exec sheet img (stepsFrom r w n)
+  made-all n img′ h = h .image ∙ ap (λ k. exec sheet img (stepsFrom r w k)) (add-sub-cancel-left w n)
+
+  module _ (i : ℕ) (img′ : List ℕ) (h : Made sheet img r w i img′) where
+    pub made-length : length img′ ≡ length img
+    made-length = ap length (h .image) ∙ exec-length sheet img (stepsFrom r w (i - w))
+
+    -- and then those from i up to j
+    pub made-more : (j : ℕ) (img″ : List ℕ) → Made sheet img′ r i j img″ → Made sheet img r w j img″
+    made-more j img″ g =
+        let few : i - w ≤ j - w = omega (arith, g .order) in
+        let here : w + (i - w) ≡ i = omega (arith, h .order) in
+        let left : j - w - (i - w) ≡ j - i = omega (arith, h .order) in
+        record {
+          order = omega (arith, h .order, g .order);
+          image = rw (
+            g .image,
+            h .image,
+            ← exec-append sheet img (stepsFrom r w (i - w)) (stepsFrom r i (j - i)),
+            ← take-append-drop (i - w) (stepsFrom r w (j - w)),
+            stepsFrom-take r w (i - w) (j - w) few,
+            stepsFrom-drop r w (i - w) (j - w) few,
+            here,
+            left,
+          );
+        }
 
 -- The stores that the steps make
 

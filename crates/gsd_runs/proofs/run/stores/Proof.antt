@@ -1,24 +1,22 @@
--- `gsd_runs::run::stores` meets its contract. Invariant: the stores from the i-th on lead to the same image.
+-- `gsd_runs::run::stores` meets its contract. Invariant of each loop: the stores of the words from where it
+-- began up to the i-th are made, and the image is that after them.
 use borrow.Author.Needs.{needs}
-use Prim.Native.Nat.{_-_, _≤_}
-use mathlib.Core.Path.{_≡_, refl, sym, _∙_, ap}
+use Prim.Native.Nat.{_+_, _-_, _≤_}
+use mathlib.Core.Path.{_≡_, sym, _∙_}
 use mathlib.Core.Bool.{true≢false}
-use native.Mathlib.Nat.{add-sub-cancel-left}
 use native.Mathlib.Omega.{arith}
-use lib.ListN.{length}
-use Rattle.gsd_runs.specs.Exec.{stepsFrom, exec}
-use Rattle.gsd_runs.proofs.Steps.{exec-next, exec-done}
+use Rattle.gsd_runs.proofs.Steps.{Made, made-none, made-one, made-more, made-all, made-length}
 use Rattle.gsd_runs.proofs.run.stores.Statement.{statement}
 use Rattle.gsd_runs.proofs.run.stores.Tie as tie
 
 abbrev Inv-loop : tie.InvT-loop
-Inv-loop image₀ sheet run w n e f i₀ image i = (i ≤ e) × ((length image ≡ length image₀) × (exec sheet image (stepsFrom run i (e - i)) ≡ exec sheet image₀ (stepsFrom run w n)))
+Inv-loop image₀ sheet run w n e f i₀ image i = (i ≤ e) × Made sheet image₀ run w i image
 
 abbrev μ-loop : tie.MeasureT-loop
 μ-loop image₀ sheet run w n e f i₀ image i = e - i
 
 abbrev Inv-loop2 : tie.InvT-loop2
-Inv-loop2 image₀ sheet run w n e f i₀ image i = (i ≤ e) × ((length image ≡ length image₀) × (exec sheet image (stepsFrom run i (e - i)) ≡ exec sheet image₀ (stepsFrom run i₀ (e - i₀))))
+Inv-loop2 image₀ sheet run w n e f i₀ image i = (i ≤ e) × Made sheet image₀ run i₀ i image
 
 abbrev μ-loop2 : tie.MeasureT-loop2
 μ-loop2 image₀ sheet run w n e f i₀ image i = e - i
@@ -30,14 +28,12 @@ near-count-requires : tie.Need-near-count-requires Inv-loop μ-loop Inv-loop2 μ
 near-count-requires c κs = c .before .before .pre .0 .order
 
 loop-holds : tie.Need-loop-holds Inv-loop μ-loop Inv-loop2 μ-loop2
-loop-holds c =
-    let x = c .before .before .before .args in
-    (search needs, (refl, ap (λ k. exec (x .sheet .now) (x .image .now) (stepsFrom (x .run) (x .w) k)) (add-sub-cancel-left (x .w) (x .n))))
+loop-holds c = (search needs, made-none _ _ _ _)
 
 next-store-requires : tie.Need-next-store-requires Inv-loop μ-loop Inv-loop2 μ-loop2
 next-store-requires c κs =
     let start = c .before .before .before .before .before .before in
-    (rw (c .before .before .loop .inv .1 .0) (start .pre .0), (search needs, λ _. c .before .before .before .near-count .ensures .1 _ (c .before .loop-test .taken)))
+    (rw (made-length _ _ _ _ _ _ (c .before .before .loop .inv .1)) (start .pre .0), (search needs, λ _. c .before .before .before .near-count .ensures .1 _ (c .before .loop-test .taken)))
 
 add-i : tie.Need-add-i Inv-loop μ-loop Inv-loop2 μ-loop2
 add-i c = search needs
@@ -49,15 +45,15 @@ loop-again : tie.Need-loop-again Inv-loop μ-loop Inv-loop2 μ-loop2
 loop-again c =
     let next-store = c .before .before .next-store in
     let loop = c .before .before .before .before .before .loop in
-    (search needs, (next-store .kept .0 ∙ loop .inv .1 .0, rw (next-store .ensures) (sym (exec-next _ _ _ _ _ (omega arith)) ∙ loop .inv .1 .1)))
+    (search needs, rw (next-store .ensures) (made-more _ _ _ _ _ _ (loop .inv .1) _ _ (made-one _ _ _ _)))
 
 loop2-holds : tie.Need-loop2-holds Inv-loop μ-loop Inv-loop2 μ-loop2
-loop2-holds c = (search needs, (refl, refl))
+loop2-holds c = (search needs, made-none _ _ _ _)
 
 next-store-requires-2 : tie.Need-next-store-requires-2 Inv-loop μ-loop Inv-loop2 μ-loop2
 next-store-requires-2 c κs =
     let start = c .before .before .before .before .before .before .before .before in
-    (rw (c .before .before .loop2 .inv .1 .0, c .before .before .before .before .loop .inv .1 .0) (start .pre .0), (search needs, λ t. absurd (true≢false (sym t))))
+    (rw (made-length _ _ _ _ _ _ (c .before .before .loop2 .inv .1), made-length _ _ _ _ _ _ (c .before .before .before .before .loop .inv .1)) (start .pre .0), (search needs, λ t. absurd (true≢false (sym t))))
 
 add-i-2 : tie.Need-add-i-2 Inv-loop μ-loop Inv-loop2 μ-loop2
 add-i-2 c = search needs
@@ -69,13 +65,17 @@ loop2-again : tie.Need-loop2-again Inv-loop μ-loop Inv-loop2 μ-loop2
 loop2-again c =
     let next-store2 = c .before .before .next-store2 in
     let loop2 = c .before .before .before .before .before .loop2 in
-    (search needs, (next-store2 .kept .0 ∙ loop2 .inv .1 .0, rw (next-store2 .ensures) (sym (exec-next _ _ _ _ _ (omega arith)) ∙ loop2 .inv .1 .1)))
+    (search needs, rw (next-store2 .ensures) (made-more _ _ _ _ _ _ (loop2 .inv .1) _ _ (made-one _ _ _ _)))
 
 same-length : tie.Need-same-length Inv-loop μ-loop Inv-loop2 μ-loop2
-same-length c = search needs
+same-length c = made-length _ _ _ _ _ _ (c .before .loop2 .inv .1) ∙ made-length _ _ _ _ _ _ (c .before .before .before .loop .inv .1)
 
 returns : tie.Need-returns Inv-loop μ-loop Inv-loop2 μ-loop2
-returns c = sym (exec-done _ _ _ _ _ (c .loop2-test .left)) ∙ c .before .loop2 .inv .1 .1 ∙ c .before .before .before .loop .inv .1 .1
+returns c =
+    let x = c .before .before .before .before .before .before .before .args in
+    let both = made-more _ _ _ _ _ _ (c .before .before .before .loop .inv .1) _ _ (c .before .loop2 .inv .1) in
+    let end : c .before .loop2 .i ≡ x .w + x .n = omega (arith, c .before .loop2 .inv .0, c .loop2-test .left) in
+    made-all _ _ _ _ _ _ (rw end at both)
 
 pub stores-spec : {M : Type 1} → statement M
 stores-spec =
