@@ -1,4 +1,4 @@
--- Every run of a plan that matches an accepted append is good: it keeps to the image and to the sheet.
+-- Every run of a plan that matches an accepted append is good: it keeps to the image and to the sheet, at multiples of 8.
 use Prim.Native.Nat.{ℕ, zero, suc, _+_, _*_, _-_, _/_, _%_, _≤_, _<_}
 use mathlib.Core.Path.{_≡_, refl, ap}
 use mathlib.Core.Bool.{Bool, true, false, cond}
@@ -15,12 +15,11 @@ use Rattle.gsd_stores.specs.Plan.{Plan as Defined, dataEnd, namesDone}
 use Rattle.gsd_stores.specs.Steps.{nameBlock}
 use Rattle.gsd_stores.specs.Demand3.{noRow}
 use Rattle.gsd_stores.proofs.Sheet.{nameAt, bodyAt, Exact, rows-count, name-length, name-inside, body-length, body-inside, start-next}
-use Rattle.gsd_stores.proofs.Rows.{offset-inside, new-names, new-few}
-use Rattle.gsd_stores.proofs.Plan.{positions, segmentsAfter, entries-count}
+use Rattle.gsd_stores.proofs.Rows.{offset-even, offset-inside, new-names, new-few}
+use Rattle.gsd_stores.proofs.Plan.{positions, positions-even, segmentsAfter, entries-count}
 use Rattle.gsd_stores.proofs.View.{Is, is-long}
 use Rattle.gsd_stores.proofs.Valid.{Ready as Accepted}
-use Rattle.gsd_stores.proofs.Moments.{ready-good}
-use Rattle.gsd_stores.proofs.Whole.{block-even}
+use Rattle.gsd_stores.proofs.Places.{blocks-even}
 use Rattle.gsd_runs.specs.declared.run.Run.{Run}
 use Rattle.gsd_runs.specs.declared.plan.Plan.{Plan}
 use Rattle.gsd_runs.specs.Exec.{Good, steps}
@@ -47,9 +46,10 @@ good-tab f i (suc k) h = record { each = (h i (omega arith), good-tab f (suc i) 
 -- Good runs, kind by kind
 
 module _ {n m : ℕ} where
-  good-number : (to k v : ℕ) → to + 8 * k ≤ n → Good n m (number to k v)
-  good-number to k v h = record {
+  good-number : (to k v : ℕ) → to % 8 ≡ 0 → to + 8 * k ≤ n → Good n m (number to k v)
+  good-number to k v a h = record {
     known = omega arith;
+    aligned = a;
     room = h;
     order = omega arith;
     image = λ e. absurd (omega arith);
@@ -57,9 +57,10 @@ module _ {n m : ℕ} where
     name = λ e. absurd (omega arith);
   }
 
-  good-copied : (to k from until : ℕ) → to + 8 * k ≤ n → from ≤ until → until ≤ n → Good n m (copied to k from until)
-  good-copied to k from until h o e = record {
+  good-copied : (to k from until : ℕ) → to % 8 ≡ 0 → to + 8 * k ≤ n → from ≤ until → until ≤ n → Good n m (copied to k from until)
+  good-copied to k from until a h o e = record {
     known = omega arith;
+    aligned = a;
     room = h;
     order = o;
     image = λ i. e;
@@ -67,9 +68,10 @@ module _ {n m : ℕ} where
     name = λ i. absurd (omega arith);
   }
 
-  good-body : (to from until : ℕ) → to + 8 * ((until - from + 7) / 8) ≤ n → from ≤ until → until ≤ m → Good n m (body to from until)
-  good-body to from until h o e = record {
+  good-body : (to from until : ℕ) → to % 8 ≡ 0 → to + 8 * ((until - from + 7) / 8) ≤ n → from ≤ until → until ≤ m → Good n m (body to from until)
+  good-body to from until a h o e = record {
     known = omega arith;
+    aligned = a;
     room = h;
     order = o;
     image = λ i. absurd (omega arith);
@@ -80,6 +82,7 @@ module _ {n m : ℕ} where
   good-name : (at from until end : ℕ) → from ≤ until → until ≤ m → at + (until - from) ≤ end → end % 8 ≡ 0 → end ≤ n → Good n m (name at from until)
   good-name at from until end o e f g h = record {
     known = omega arith;
+    aligned = omega arith;
     room = omega arith;
     order = o;
     image = λ i. absurd (omega arith);
@@ -90,16 +93,16 @@ module _ {n m : ℕ} where
   -- a run that a move needs is good if it is so when the block moves
   good-moved : (moves : Bool) (r : Run) → (moves ≡ true → Good n m r) → Good n m (ifMoved moves r)
   good-moved true r h = h refl
-  good-moved false r h = good-number 0 0 0 (omega arith)
+  good-moved false r h = good-number 0 0 0 refl (omega arith)
 
   -- a block that moves from a to b
-  good-move : (moves : Bool) (a until b k total h count : ℕ) → a ≤ until → until ≤ n → k ≤ total → h + 16 ≤ n → (moves ≡ true → b + 8 * total ≤ n) →
-      AllGood n m (moveRuns moves a until b k total h count)
-  good-move moves a until b k total h count o e few low fits =
-      let copy : Good n m (ifMoved moves (copied b k a until)) = good-moved moves _ (λ t. good-copied b k a until (omega (arith, fits t)) o e) in
-      let clear : Good n m (ifMoved moves (number (b + 8 * k) (total - k) 0)) = good-moved moves _ (λ t. good-number _ _ 0 (omega (arith, fits t))) in
-      let place : Good n m (ifMoved moves (number h 1 b)) = good-moved moves _ (λ t. good-number h 1 b (omega arith)) in
-      let size : Good n m (ifMoved moves (number (h + 8) 1 count)) = good-moved moves _ (λ t. good-number (h + 8) 1 count (omega arith)) in
+  good-move : (moves : Bool) (a until b k total h count : ℕ) → b % 8 ≡ 0 → h % 8 ≡ 0 → a ≤ until → until ≤ n → k ≤ total → h + 16 ≤ n →
+      (moves ≡ true → b + 8 * total ≤ n) → AllGood n m (moveRuns moves a until b k total h count)
+  good-move moves a until b k total h count even word o e few low fits =
+      let copy : Good n m (ifMoved moves (copied b k a until)) = good-moved moves _ (λ t. good-copied b k a until even (omega (arith, fits t)) o e) in
+      let clear : Good n m (ifMoved moves (number (b + 8 * k) (total - k) 0)) = good-moved moves _ (λ t. good-number _ _ 0 (omega arith) (omega (arith, fits t))) in
+      let place : Good n m (ifMoved moves (number h 1 b)) = good-moved moves _ (λ t. good-number h 1 b word (omega arith)) in
+      let size : Good n m (ifMoved moves (number (h + 8) 1 count)) = good-moved moves _ (λ t. good-number (h + 8) 1 count (omega arith) (omega arith)) in
       record { each = (copy, (clear, (place, (size, tt)))) }
 
 -- runs in an image that opens have few words
@@ -114,12 +117,13 @@ flat-inside [] j l = absurd (omega arith)
 flat-inside (b ∷ bs) zero l = omega (arith, flat-size b bs, ap length flat-none)
 flat-inside (b ∷ bs) (suc j) l = omega (arith, flat-size b bs, flat-size b (take j bs), flat-inside bs j (omega arith))
 
-four-low : (i : ℕ) → ofFour 0 8 24 16 i ≤ 24
+-- the places of an entry's words
+four-fit : (i : ℕ) → (ofFour 0 8 24 16 i ≤ 24) × (ofFour 0 8 24 16 i % 8 ≡ 0)
 unfolding ofFour
-four-low zero = omega arith
-four-low (suc zero) = omega arith
-four-low (suc (suc zero)) = omega arith
-four-low (suc (suc (suc i))) = omega arith
+four-fit zero = (omega arith, refl)
+four-fit (suc zero) = (omega arith, refl)
+four-fit (suc (suc zero)) = (omega arith, refl)
+four-fit (suc (suc (suc i))) = (omega arith, refl)
 
 taken : (moves : Bool) (a b : ℕ) → moves ≡ true → cond moves a b ≡ a
 taken moves a b e = rw e
@@ -139,10 +143,10 @@ module _ {x : List ℕ} {v : View} {p : Defined} (sheet : List ℕ) (r : Accepte
       let h : HeadsMatch v p (headsFrom (c .heads)) = m .heads in
       let index : v .layout .index + 32 * v .layout .slots ≤ length x = omega (arith, is .blocks .indexHigh, is-long is) in
       let names : namelistEnd (v .layout) ≤ length x = omega (arith, is .blocks .namelistHigh, is-long is) in
-      let clear : Fine (headsFrom (c .heads) .clearIndex) = rw (h .clearIndex) (good-number _ _ 0 (omega (arith, is .entries .few))) in
+      let clear : Fine (headsFrom (c .heads) .clearIndex) = rw (h .clearIndex) (good-number _ _ 0 (omega (arith, r .evenIndex)) (omega (arith, is .entries .few))) in
       let keep : Fine (headsFrom (c .heads) .keepNames)
-      = rw (h .keepNames) (good-copied _ _ _ _ (omega (arith, is .names .few)) (omega arith) (omega (arith, is .names .few))) in
-      let others : Fine (headsFrom (c .heads) .clearNames) = rw (h .clearNames) (good-number _ _ 0 (omega (arith, is .names .few))) in
+      = rw (h .keepNames) (good-copied _ _ _ _ (omega arith) (omega (arith, is .names .few)) (omega arith) (omega (arith, is .names .few))) in
+      let others : Fine (headsFrom (c .heads) .clearNames) = rw (h .clearNames) (good-number _ _ 0 (omega arith) (omega (arith, is .names .few))) in
       record { each = (clear, (keep, (others, tt))) }
 
   body-good : (i : ℕ) → i < length rows → Fine (bodyRun c i)
@@ -152,7 +156,7 @@ module _ {x : List ℕ} {v : View} {p : Defined} (sheet : List ℕ) (r : Accepte
       let end : nameAt sheet (suc i) ≡ bodyAt sheet i + length (getD rows i noRow .body)
       = omega (arith, start-next sheet 4 (tableEnd sheet) i, body-length sheet exact i k) in
       rw (m .bodies i l .to, m .bodies i l .from, m .bodies i l .until)
-      (good-body _ _ _ (omega (arith, offset-inside rows i l, ap length (r .plan .body), positions p, r .fits, is-long is)) (omega arith)
+      (good-body _ _ _ (omega (arith, r .plan .room .even, offset-even rows i)) (omega (arith, offset-inside rows i l, ap length (r .plan .body), positions p, r .fits, is-long is)) (omega arith)
       (omega (arith, start-next sheet 4 (tableEnd sheet) i, body-inside sheet exact i k)))
 
   name-good : (j : ℕ) → j < length (p .fresh) → Fine (nameRun c j)
@@ -167,14 +171,14 @@ module _ {x : List ℕ} {v : View} {p : Defined} (sheet : List ℕ) (r : Accepte
       rw (w .at, w .from, w .until)
       (good-name _ _ _ end (omega arith) (name-inside sheet exact (w .row) k)
       (omega (arith, name-length sheet exact (w .row) k, flat-inside (p .fresh) j l, r .plan .namesFit))
-      (omega (arith, block-even (ready-good v rows p r))) (omega (arith, r .blocks .namelistHigh, is-long is)))
+      (omega (arith, blocks-even v rows p r .0)) (omega (arith, r .blocks .namelistHigh, is-long is)))
 
   entry-good : (k : ℕ) → k < 4 * c .rows → Fine (entryRun c k)
   unfolding entryRun
   entry-good k l =
-      good-number _ 1 _ (omega (
+      good-number _ 1 _ (omega (arith, four-fit (k % 4), m .slot, blocks-even v rows p r .1)) (omega (
         arith,
-        four-low (k % 4),
+        four-fit (k % 4),
         m .slot,
         m .rows,
         entries-count v rows p (r .plan),
@@ -187,7 +191,7 @@ module _ {x : List ℕ} {v : View} {p : Defined} (sheet : List ℕ) (r : Accepte
   block-good =
       let h : HeadsMatch v p (headsFrom (c .heads)) = m .heads in
       rw (h .copyNames, h .clearBlock, h .word24, h .word32)
-      (good-move (p .namesMove) (v .layout .namelist) (namesEnd v) (dataEnd p) (nameWords v) (8 * p .segments) 24 (p .segments) (omega arith)
+      (good-move (p .namesMove) (v .layout .namelist) (namesEnd v) (dataEnd p) (nameWords v) (8 * p .segments) 24 (p .segments) (positions-even v rows p (r .plan) .0) refl (omega arith)
       (omega (arith, is .names .few, is .blocks .namelistHigh, is-long is)) (omega (arith, is .names .few, r .plan .twiceSegments))
       (omega (arith, is .front .low))
       (λ e. omega (arith, taken (p .namesMove) (dataEnd p + 64 * p .segments) (dataEnd p) e, positions p, r .fits, is-long is)))
@@ -199,7 +203,7 @@ module _ {x : List ℕ} {v : View} {p : Defined} (sheet : List ℕ) (r : Accepte
       let place : namesDone p + 8 * (4 * count) ≡ namesDone p + 32 * count = omega arith in
       let left : 4 * p .slots - 4 * count ≡ 4 * (p .slots - count) = omega arith in
       rw (h .copyEntries, h .clearSlots, h .word8, h .word16, ← place, ← left)
-      (good-move (p .indexMoves) (v .layout .index) (entriesEnd v) (namesDone p) (4 * count) (4 * p .slots) 8 (p .slots) (omega arith)
+      (good-move (p .indexMoves) (v .layout .index) (entriesEnd v) (namesDone p) (4 * count) (4 * p .slots) 8 (p .slots) (positions-even v rows p (r .plan) .1) refl (omega arith)
       (omega (arith, is .entries .few, is .blocks .indexHigh, is-long is)) (omega (arith, is .entries .few, r .plan .twiceSlots))
       (omega (arith, is .front .low))
       (λ e. omega (arith, taken (p .indexMoves) (namesDone p + 32 * p .slots) (namesDone p) e, r .fits, is-long is)))

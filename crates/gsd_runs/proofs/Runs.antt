@@ -147,6 +147,7 @@ module _ (l : List ℕ) where
 pub good-more : (n m n′ m′ : ℕ) (r : Run) → n ≤ n′ → m ≤ m′ → Good n m r → Good n′ m′ r
 good-more n m n′ m′ r a b g = record {
   known = g .known;
+  aligned = g .aligned;
   room = omega (arith, g .room);
   order = g .order;
   image = λ e. omega (arith, g .image e);

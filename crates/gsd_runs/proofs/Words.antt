@@ -1,5 +1,5 @@
 -- Laws of a run's words, kind by kind: where they go, where and in which text they are read.
-use Prim.Native.Nat.{ℕ, suc, _+_, _*_, _-_, _^_, _≤_, _<_, max}
+use Prim.Native.Nat.{ℕ, suc, _+_, _*_, _-_, _^_, _%_, _≤_, _<_, max}
 use mathlib.Core.Path.{_≡_, _∙_, ap}
 use mathlib.Core.List.{List}
 use native.Mathlib.Nat.{pow-suc, pow-le-pow-right}
@@ -67,6 +67,14 @@ module _ (r : Run) (w : ℕ) where
   place-within h = go (ℕ-discrete (r .kind) 3)
     where
       go : Dec (r .kind ≡ 3) → (r .to ≤ placeOf r w) × (placeOf r w + 8 ≤ r .to + 8 * r .words)
+      go (yes e) = omega (arith, place-name e)
+      go (no n) = omega (arith, place-other n)
+
+  -- and at a multiple of 8 if its run does
+  pub place-aligned : r .to % 8 ≡ 0 → placeOf r w % 8 ≡ 0
+  place-aligned a = go (ℕ-discrete (r .kind) 3)
+    where
+      go : Dec (r .kind ≡ 3) → placeOf r w % 8 ≡ 0
       go (yes e) = omega (arith, place-name e)
       go (no n) = omega (arith, place-other n)
 

@@ -1,5 +1,5 @@
 -- The stores of runs, made one after the other: each word is read in the image as the stores before it left it.
-use Prim.Native.Nat.{ℕ, zero, suc, _+_, _*_, _-_, _≤_, _<_}
+use Prim.Native.Nat.{ℕ, zero, suc, _+_, _*_, _-_, _%_, _≤_, _<_}
 use mathlib.Core.Path.{_≡_}
 use mathlib.Core.Bool.{cond}
 use mathlib.Core.List.{List, [], _∷_, _++_}
@@ -40,6 +40,7 @@ applied sheet img r w = stored img (placeOf r w) (leBytes 8 (wordOf sheet img r 
 -- what a run needs of an image of n bytes and a sheet of m
 pub record Good (n m : ℕ) (r : Run) : Type 0 where
   pub known : r .kind < 4
+  pub aligned : r .to % 8 ≡ 0
   pub room : r .to + 8 * r .words ≤ n
   pub order : r .from ≤ r .until
   pub image : r .kind ≡ 0 → r .until ≤ n

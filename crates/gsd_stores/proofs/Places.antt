@@ -86,6 +86,14 @@ placed-names (b ∷ bs) names len block hi e l h g n f =
     placed-name len block hi (flat names) b e l h g (n .0 .some) (omega arith)
     ⊹ (placed-names bs (names ++ b ∷ []) len block hi e l h g (n .1) (omega arith))
 
+-- the blocks of an append lie at multiples of 8 after steps 3 and 5 too
+pub blocks-even : (v : View) (rs : List Row) (p : Plan) → Ready v rs p → (nameBlock v p % 8 ≡ 0) × (indexBlock v p % 8 ≡ 0)
+blocks-even v rs p r =
+    let even = positions-even v rs p (r .plan) in (
+      chosen (λ k. k % 8 ≡ 0) (p .namesMove) (dataEnd p) (v .layout .namelist) (even .0) (λ e. r .evenNames),
+      chosen (λ k. k % 8 ≡ 0) (p .indexMoves) (namesDone p) (v .layout .index) (even .1) (λ e. r .evenIndex),
+    )
+
 module _ (x : List ℕ) (rs : List Row) (ok : Valid x rs) where
   abbrev v : View
   v = viewOf x
@@ -122,10 +130,10 @@ module _ (x : List ℕ) (rs : List Row) (ok : Valid x rs) where
   data-even = positions-even v rs p (r .plan) .0
 
   names-even : nameBlock v p % 8 ≡ 0
-  names-even = chosen (λ k. k % 8 ≡ 0) (p .namesMove) (dataEnd p) (v .layout .namelist) data-even (λ e. r .evenNames)
+  names-even = blocks-even v rs p r .0
 
   index-even : indexBlock v p % 8 ≡ 0
-  index-even = chosen (λ k. k % 8 ≡ 0) (p .indexMoves) (namesDone p) (v .layout .index) (positions-even v rs p (r .plan) .1) (λ e. r .evenIndex)
+  index-even = blocks-even v rs p r .1
 
   header : headerSize ≤ v .layout .len
   header = omega (arith, is .blocks .indexLow, is .blocks .indexHigh)
