@@ -7,6 +7,8 @@ pub mod RowRuns
 pub mod StoreList
 pub mod GoodRuns
 pub mod Appends
+-- and the next store is each time the next of the list
+pub mod NextStore
 -- the plan that the code makes matches
 pub mod SitesMatch
 pub mod EntryOrder

@@ -4,3 +4,4 @@ pub mod Steps
 pub mod Runs
 pub mod Count
 pub mod Turns
+pub mod OneStore

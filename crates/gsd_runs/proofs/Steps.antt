@@ -1,13 +1,13 @@
 -- Laws of steps: how many there are, parts of them, what is left at a cursor, and the stores that they make.
-use Prim.Native.Nat.{ℕ, zero, suc, _+_, _-_, _≤_}
+use Prim.Native.Nat.{ℕ, zero, suc, _+_, _-_, _≤_, _<_}
 use mathlib.Core.Path.{_≡_, refl, _∙_, ap}
 use mathlib.Core.List.{List, [], _∷_, _++_, append-assoc}
 use native.Mathlib.Nat.{add-zero, sub-zero, sub-self, add-sub-cancel-left, sub-eq-zero-of-le}
 use native.Mathlib.Omega.{arith}
-use lib.ListN.{length, take, drop, length-append, take-append-drop}
+use lib.ListN.{length, getD, take, drop, length-append, take-append-drop}
 use lib.Seq.{take-append-le, drop-append-le}
 use Rattle.gsd_format.proofs.Bytes.{stored-length}
-use Rattle.gsd_stores.specs.Stores.{after}
+use Rattle.gsd_stores.specs.Stores.{Store, after}
 use Rattle.gsd_runs.specs.declared.run.Run.{Run}
 use Rattle.gsd_runs.specs.Exec.{storeOf, applied, Step, stepsFrom, steps, rest, exec, storesOf}
 
@@ -145,3 +145,11 @@ unfolding exec storesOf after
 exec-after sheet img ss zero = refl
 exec-after sheet img [] (suc k) = refl
 exec-after sheet img (s ∷ ss) (suc k) = exec-after sheet (applied sheet img (s .run) (s .word)) ss k
+
+-- the k-th store is that of the k-th step, on the image that the steps before it left
+pub storesOf-at : (sheet img : List ℕ) (ss : List Step) (k : ℕ) (none : Step) (no-store : Store) → k < length ss
+    → getD (storesOf sheet img ss) k no-store ≡ storeOf sheet (exec sheet img (take k ss)) (getD ss k none .run) (getD ss k none .word)
+unfolding exec storesOf
+storesOf-at sheet img [] k none no-store h = absurd (omega arith)
+storesOf-at sheet img (s ∷ ss) zero none no-store h = refl
+storesOf-at sheet img (s ∷ ss) (suc k) none no-store h = storesOf-at sheet (applied sheet img (s .run) (s .word)) ss k none no-store (omega arith)

@@ -1,12 +1,13 @@
 -- Laws of a turn: the cursor goes from run to run until the limit or the runs end, and turns in a row are one.
-use Prim.Native.Nat.{ℕ, _+_, _-_, _≤_, _<_, min}
+use Prim.Native.Nat.{ℕ, suc, _+_, _-_, _≤_, _<_, min}
 use mathlib.Core.Path.{_≡_, refl, sym, _∙_, ap}
 use mathlib.Core.List.{List, [], _∷_}
-use native.Mathlib.Nat.{sub-self}
+use native.Mathlib.Nat.{add-zero, sub-self}
 use native.Mathlib.Numerals.{add-one}
+use native.Mathlib.Decide.{decLe}
 use native.Mathlib.Omega.{arith}
-use lib.ListN.{length, getD, take, drop, length-drop, drop-of-length-le}
-use lib.Seq.{drop-cons, drop-drop, take-add}
+use lib.ListN.{length, getD, take, drop, length-drop, drop-of-length-le, List·getD-eq-default}
+use lib.Seq.{drop-cons, drop-drop, drop-append-add, take-add, getD-take, getD-drop}
 use Rattle.gsd_stores.specs.Stores.{Store, after}
 use Rattle.gsd_runs.specs.declared.run.Run.{Run}
 use Rattle.gsd_runs.specs.declared.plan.Plan.{Plan}
@@ -14,7 +15,8 @@ use Rattle.gsd_runs.specs.declared.turn.Turned.{Turned}
 use Rattle.gsd_runs.specs.Exec.{Good, Step, stepsFrom, steps, rest, exec, storesOf}
 use Rattle.gsd_runs.specs.Runs.{none, runsOf, Ready}
 use Rattle.gsd_runs.specs.Turns.{ahead, Cursor, Walked, TurnSays}
-use Rattle.gsd_runs.proofs.Steps.{rest-take, rest-drop, rest-next, rest-length, steps-rest, exec-append, exec-length, exec-after, storesOf-length}
+use Rattle.gsd_runs.proofs.Count.{count-cons}
+use Rattle.gsd_runs.proofs.Steps.{stepsFrom-length, rest-take, rest-drop, rest-next, rest-length, steps-rest, exec-append, exec-length, exec-after, storesOf-length}
 
 -- Some of the steps are made
 
@@ -145,3 +147,53 @@ turns-join sheet img p r w l₁ l₂ t u img₁ img₂ h g =
       made = omega (arith, h .made, g .made, there, h .walked .within);
       cursor = g .cursor;
     }
+
+-- The cursor before each step
+
+-- k steps of the runs are made, and the next one is word w of run r
+pub record Reached (rs : List Run) (k r w : ℕ) : Type 0 where
+  pub word : w < getD rs r none .words
+  pub here : rest (drop r rs) w ≡ drop k (steps rs)
+
+-- there is one for each step
+pub reached : (rs : List Run) (k : ℕ) → k < length (steps rs) → (r : ℕ) × ((w : ℕ) × Reached rs k r w)
+unfolding steps
+reached [] k h = absurd (omega arith)
+reached (q ∷ rs) k h = go (λ l. reached rs (k - q .words) (omega (arith, count-cons q rs))) (decLe (q .words) k)
+  where
+    go : (q .words ≤ k → (r : ℕ) × ((w : ℕ) × Reached rs (k - q .words) r w)) → Dec (q .words ≤ k) → (r : ℕ) × ((w : ℕ) × Reached (q ∷ rs) k r w)
+    go more (yes l) =
+        let next = more l in
+        let past : k ≡ length (stepsFrom q 0 (q .words)) + (k - q .words) = omega (arith, stepsFrom-length q 0 (q .words)) in
+        let left : drop k (steps (q ∷ rs)) ≡ drop (k - q .words) (steps rs)
+        = ap (λ n. drop n (steps (q ∷ rs))) past ∙ drop-append-add (stepsFrom q 0 (q .words)) (steps rs) (k - q .words) in
+        (suc (next .0), (next .1 .0, record { word = next .1 .1 .word; here = next .1 .1 .here ∙ sym left }))
+    go more (no n) =
+        let first : 0 + k ≡ k = omega arith in
+        (0, (k, record { word = omega arith; here = rw (steps-rest (q ∷ rs), rest-drop q rs 0 k (omega arith), first) }))
+
+module _ (rs : List Run) (k r w : ℕ) (h : Reached rs k r w) where
+  pub reached-inside : r < length rs
+  reached-inside = go (decLe (length rs) r)
+    where
+      go : Dec (length rs ≤ r) → r < length rs
+      go (yes l) = absurd (omega (arith, h .word, ap (λ q. q .words) (List·getD-eq-default rs none l)))
+      go (no n) = omega arith
+
+  run-here : rest (drop r rs) w ≡ rest (getD rs r none ∷ drop (suc r) rs) w
+  run-here = ap (λ l. rest l w) (drop-cons rs r none reached-inside)
+
+  pub reached-more : k < length (steps rs)
+  reached-more =
+      omega (arith, h .word, rest-length (getD rs r none) (drop (suc r) rs) w, ap length (sym run-here ∙ h .here), length-drop k (steps rs))
+
+  pub reached-step : (none-left : Step) → getD (steps rs) k none-left ≡ record { run = getD rs r none; word = w }
+  unfolding stepsFrom
+  reached-step none-left =
+      let ahead-here : List Step = rest (getD rs r none ∷ drop (suc r) rs) w in
+      let first : take 1 ahead-here ≡ stepsFrom (getD rs r none) w 1 = rest-take (getD rs r none) (drop (suc r) rs) w 1 (omega (arith, h .word)) in
+      ap (λ n. getD (steps rs) n none-left) (sym (add-zero k))
+      ∙ sym (getD-drop k (steps rs) 0 none-left)
+      ∙ ap (λ l. getD l 0 none-left) (sym (h .here) ∙ run-here)
+      ∙ sym (getD-take 1 ahead-here 0 none-left (omega arith))
+      ∙ ap (λ l. getD l 0 none-left) first
