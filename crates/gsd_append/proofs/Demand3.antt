@@ -5,29 +5,55 @@ use mathlib.Core.Bool.{true}
 use mathlib.Core.List.{List, [], _∷_}
 use native.Mathlib.Omega.{arith}
 use lib.ListN.{length}
+use contract.Lifetimes.{Lfts}
+use denote.Triple.Clauses.{AtExit}
+use borrow.Fn.World.{ArgsD}
+use borrow.Fn.Kinds.{endedOf}
 use borrow.Author.Tests.{eqb-true, leb-true, eq-eqb, le-leb}
 use Rattle.gsd_format.specs.Opening.{verdict}
 use Rattle.gsd_format.proofs.Refusals.{both-true, both-of}
 use Rattle.gsd_stores.specs.declared.Appended.{Appended}
 use Rattle.gsd_stores.specs.Append.{storesFor, appendAnswer, appended}
-use Rattle.gsd_stores.specs.Runs.{Call, storesMade, afterStores, Moment, during, Follows, inCall, afterRun, lastStoreMade}
+use Rattle.gsd_stores.specs.Runs.{Call, storesMade, afterStores, Moment, during, Follows, inCall, afterCall, afterRun, lastStoreMade}
 use Rattle.gsd_stores.specs.Demand3.{Demand3}
 use Rattle.gsd_stores.proofs.Limits.{stopped}
 use Rattle.gsd_stores.proofs.Demand3.{demand3}
+use Rattle.gsd_append.proofs.append.{signature}
+use Rattle.gsd_append.proofs.append.Kinds.{ps, r as answer}
+use Rattle.gsd_append.proofs.append.Reads.{Asked, Learnt}
 
--- what `append` ensures of a call: its answer r, and the image y that it leaves of x
-abbrev pub Promised : List ℕ → Call → Appended → List ℕ → Type 0
-Promised x c r y = (r ≡ appendAnswer x (c .sheet) (c .limit)) × (y ≡ appended x (c .sheet) (c .limit))
+-- A call of `append` by the contract that is made of that function: on the image x it answered r and left y
+pub record Called (x : List ℕ) (c : Call) (r : Appended) (y : List ℕ) : Type 0 where
+  pub lifetimes : Lfts 2
+  pub args : ArgsD signature lifetimes
+  pub exit : AtExit (endedOf 2 ps answer) lifetimes
+  pub onImage : args .0 .now ≡ x
+  pub onSheet : args .1 .0 .now ≡ c .sheet
+  pub withLimit : args .1 .1 .0 ≡ c .limit
+  pub left : exit .0 .now ≡ y
+  pub ensured : Learnt lifetimes args r exit
+
+-- so the answer is that of the definition, and the image is. A weaker `ensures` is refused here
+module _ {x : List ℕ} {c : Call} {r : Appended} {y : List ℕ} (q : Called x c r y) where
+  pub call-answers : r ≡ appendAnswer x (c .sheet) (c .limit)
+  call-answers = q .ensured .0 ∙ (λ i. appendAnswer (q .onImage i) (q .onSheet i) (q .withLimit i))
+
+  pub call-leaves : y ≡ afterCall x c
+  call-leaves = sym (q .left) ∙ q .ensured .1 ∙ (λ i. appended (q .onImage i) (q .onSheet i) (q .withLimit i))
+
+-- and any call may be made: the contract asks nothing
+pub call-asks : (lifetimes : Lfts 2) (args : ArgsD signature lifetimes) → Asked lifetimes args
+call-asks lifetimes args = tt
 
 -- calls one after the other, each on the image that the call before left: from x to z
 pub data Calls : List ℕ → List Call → List ℕ → Type 0 where
   none : {x : List ℕ} → Calls x [] x
-  then : {x y z : List ℕ} {c : Call} {cs : List Call} (r : Appended) → Promised x c r y → Calls y cs z → Calls x (c ∷ cs) z
+  then : {x y z : List ℕ} {c : Call} {cs : List Call} (r : Appended) → Called x c r y → Calls y cs z → Calls x (c ∷ cs) z
 
 calls-run : {x z : List ℕ} {cs : List Call} → Calls x cs z → z ≡ afterRun x cs
 unfolding afterRun
 calls-run none = refl
-calls-run (then {cs = cs} r p q) = calls-run q ∙ ap (λ m. afterRun m cs) (p .1)
+calls-run (then {cs = cs} r p q) = calls-run q ∙ ap (λ m. afterRun m cs) (call-leaves p)
 
 -- the image that they leave is that of the run, and of this run demand 3 holds
 pub record Kept (x : List ℕ) (cs : List Call) (z : List ℕ) : Type 0 where
@@ -42,25 +68,25 @@ append-keeps {x} {cs = cs} o q = record { left = calls-run q; demand = demand3 x
 abbrev pub stoppedAt : Call → ℕ → Call
 stoppedAt c k = record { sheet = c .sheet; bytes = c .bytes; limit = k }
 
-left-at : (x y : List ℕ) (c : Call) (r : Appended) (k : ℕ) → Promised x (stoppedAt c k) r y → afterStores x c k ≡ y
-left-at x y c r k p = stopped x (c .sheet) k ∙ sym (p .1)
+left-at : (x y : List ℕ) (c : Call) (r : Appended) (k : ℕ) → Called x (stoppedAt c k) r y → afterStores x c k ≡ y
+left-at x y c r k p = stopped x (c .sheet) k ∙ sym (call-leaves p)
 
-pub append-moment : {x y : List ℕ} {c : Call} {cs : List Call} (k : ℕ) → k ≤ storesMade x c → (r : Appended) → Promised x (stoppedAt c k) r y →
+pub append-moment : {x y : List ℕ} {c : Call} {cs : List Call} (k : ℕ) → k ≤ storesMade x c → (r : Appended) → Called x (stoppedAt c k) r y →
     Moment x (c ∷ cs) y
 append-moment {x} {y} {c} {cs} k h r p = subst (Moment x (c ∷ cs)) (left-at x y c r k p) (during k h)
 
 pub append-follows : {x y z : List ℕ} {c : Call} {cs : List Call} (k l : ℕ) → k ≤ l → l ≤ storesMade x c → (r s : Appended) →
-    Promised x (stoppedAt c k) r y → Promised x (stoppedAt c l) s z → Follows x (c ∷ cs) y z
+    Called x (stoppedAt c k) r y → Called x (stoppedAt c l) s z → Follows x (c ∷ cs) y z
 append-follows {x} {y} {z} {c} k l h g r s p q = rw (← left-at x y c r k p, ← left-at x z c s l q) (inCall k l h g)
 
 -- The last store was made exactly when the answer says so
-module _ (x y : List ℕ) (c : Call) (r : Appended) (p : Promised x c r y) where
+module _ (x y : List ℕ) (c : Call) (r : Appended) (p : Called x c r y) where
   pub answer-made : r .number ≡ 0 → r .done ≡ r .whole → lastStoreMade x c ≡ true
   unfolding lastStoreMade appendAnswer
   answer-made n d =
-      let number = ap (λ a. a .number) (p .0) in
-      let done = ap (λ a. a .done) (p .0) in
-      let whole = ap (λ a. a .whole) (p .0) in
+      let number = ap (λ a. a .number) (call-answers p) in
+      let done = ap (λ a. a .done) (call-answers p) in
+      let whole = ap (λ a. a .whole) (call-answers p) in
       both-of _ _ (eq-eqb _ _ (sym number ∙ n)) (le-leb (length (storesFor x (c .sheet))) (c .limit) (omega arith))
 
   pub made-answer : lastStoreMade x c ≡ true → (r .number ≡ 0) × (r .done ≡ r .whole)
@@ -68,6 +94,6 @@ module _ (x y : List ℕ) (c : Call) (r : Appended) (p : Promised x c r y) where
   made-answer h =
       let both = both-true _ _ h in
       let few : length (storesFor x (c .sheet)) ≤ c .limit = leb-true _ _ (both .1) in
-      let done = ap (λ a. a .done) (p .0) in
-      let whole = ap (λ a. a .whole) (p .0) in
-      (ap (λ a. a .number) (p .0) ∙ eqb-true _ _ (both .0), omega arith)
+      let done = ap (λ a. a .done) (call-answers p) in
+      let whole = ap (λ a. a .whole) (call-answers p) in
+      (ap (λ a. a .number) (call-answers p) ∙ eqb-true _ _ (both .0), omega arith)
