@@ -13,7 +13,9 @@ same-length : tie.Need-same-length
 same-length c = search needs
 
 returns : tie.Need-returns
-returns c = refused-append _ _ _ _ (c .before .before .plan-append .ensures .number) (c .if1 .taken)
+returns c =
+    let start = c .before .before .before .before .before .before in
+    search (needs, refused-append _ _ (start .args .limit) _ (c .before .before .plan-append .ensures .number) (c .if1 .taken))
 
 whole-requires : tie.Need-whole-requires
 whole-requires c κs =
@@ -37,7 +39,7 @@ returns-2 c =
     let plan-append = c .before .before .before .before .before .before .before .plan-append in
     let shared-slice-known = c .before .before .before .before .before .before .before .before .before .shared-slice-known in
     let slice-known = c .before .before .before .before .before .before .before .before .before .before .slice-known in
-    accepted-append _ _ (sym (plan-append .ensures .number) ∙ if1 .left) (λ i. omega (arith, slice-known .given i)) (λ i. omega (arith, shared-slice-known .given i)) _ (plan-append .ensures .plan (sym (plan-append .ensures .number) ∙ if1 .left)) _ _ _ _ (c .before .before .before .before .whole .ensures) (c .before .before .turn .ensures)
+    search (needs, accepted-append _ _ (sym (plan-append .ensures .number) ∙ if1 .left) (λ i. omega (arith, slice-known .given i)) (λ i. omega (arith, shared-slice-known .given i)) _ (plan-append .ensures .plan (sym (plan-append .ensures .number) ∙ if1 .left)) _ _ _ _ (c .before .before .before .before .whole .ensures) (c .before .before .turn .ensures))
 
 pub append-spec : {M : Type 1} → statement M
 append-spec =
