@@ -69,7 +69,8 @@ module _ (x sheet : List ℕ) (ok : appendTest x sheet ≡ 0) (ox : Octets x) (o
     unfolding after
     one-more = ap (after x) (take-suc (storesFor x sheet) k noStore below) ∙ after-append x (take k (storesFor x sheet)) (kthStore x sheet k ∷ [])
 
-    store-made : {img′ : List ℕ} → OneStore before sheet (getD (runsOf c) r none) w img′ → img′ ≡ stored before (kthStore x sheet k .place) (kthStore x sheet k .bytes)
+    store-made : {img′ : List ℕ} → OneStore before sheet (getD (runsOf c) r none) w img′ →
+        img′ ≡ stored before (kthStore x sheet k .place) (kthStore x sheet k .bytes)
     store-made q = one-store q ∙ ap (λ s. stored before (s .place) (s .bytes)) (sym store-is)
 
     -- and there the next store is this one

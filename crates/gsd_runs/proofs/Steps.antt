@@ -147,9 +147,9 @@ exec-after sheet img [] (suc k) = refl
 exec-after sheet img (s ∷ ss) (suc k) = exec-after sheet (applied sheet img (s .run) (s .word)) ss k
 
 -- the k-th store is that of the k-th step, on the image that the steps before it left
-pub storesOf-at : (sheet img : List ℕ) (ss : List Step) (k : ℕ) (none : Step) (no-store : Store) → k < length ss
-    → getD (storesOf sheet img ss) k no-store ≡ storeOf sheet (exec sheet img (take k ss)) (getD ss k none .run) (getD ss k none .word)
+pub storesOf-at : (sheet img : List ℕ) (ss : List Step) (k : ℕ) (no-step : Step) (no-store : Store) → k < length ss
+    → getD (storesOf sheet img ss) k no-store ≡ storeOf sheet (exec sheet img (take k ss)) (getD ss k no-step .run) (getD ss k no-step .word)
 unfolding exec storesOf
-storesOf-at sheet img [] k none no-store h = absurd (omega arith)
-storesOf-at sheet img (s ∷ ss) zero none no-store h = refl
-storesOf-at sheet img (s ∷ ss) (suc k) none no-store h = storesOf-at sheet (applied sheet img (s .run) (s .word)) ss k none no-store (omega arith)
+storesOf-at sheet img [] k no-step no-store h = absurd (omega arith)
+storesOf-at sheet img (s ∷ ss) zero no-step no-store h = refl
+storesOf-at sheet img (s ∷ ss) (suc k) no-step no-store h = storesOf-at sheet (applied sheet img (s .run) (s .word)) ss k no-step no-store (omega arith)

@@ -1,4 +1,5 @@
--- Laws of a turn: the cursor goes from run to run until the limit or the runs end, and turns in a row are one.
+-- Laws of a turn: the cursor goes from run to run until the limit or the runs end, and turns in a row are one. Where the cursor
+-- stands before each step.
 use Prim.Native.Nat.{ℕ, suc, _+_, _-_, _≤_, _<_, min}
 use mathlib.Core.Path.{_≡_, refl, sym, _∙_, ap}
 use mathlib.Core.List.{List, [], _∷_}
@@ -187,13 +188,18 @@ module _ (rs : List Run) (k r w : ℕ) (h : Reached rs k r w) where
   reached-more =
       omega (arith, h .word, rest-length (getD rs r none) (drop (suc r) rs) w, ap length (sym run-here ∙ h .here), length-drop k (steps rs))
 
-  pub reached-step : (none-left : Step) → getD (steps rs) k none-left ≡ record { run = getD rs r none; word = w }
+  pub reached-step : (no-step : Step) → getD (steps rs) k no-step ≡ record { run = getD rs r none; word = w }
   unfolding stepsFrom
-  reached-step none-left =
+  reached-step no-step =
       let ahead-here : List Step = rest (getD rs r none ∷ drop (suc r) rs) w in
       let first : take 1 ahead-here ≡ stepsFrom (getD rs r none) w 1 = rest-take (getD rs r none) (drop (suc r) rs) w 1 (omega (arith, h .word)) in
-      ap (λ n. getD (steps rs) n none-left) (sym (add-zero k))
-      ∙ sym (getD-drop k (steps rs) 0 none-left)
-      ∙ ap (λ l. getD l 0 none-left) (sym (h .here) ∙ run-here)
-      ∙ sym (getD-take 1 ahead-here 0 none-left (omega arith))
-      ∙ ap (λ l. getD l 0 none-left) first
+      ap (λ n. getD (steps rs) n no-step) (sym (add-zero k))
+      ∙ sym (getD-drop k (steps rs) 0 no-step)
+      ∙ ap (λ l. getD l 0 no-step) (sym (h .here) ∙ run-here)
+      ∙ sym (getD-take 1 ahead-here 0 no-step (omega arith))
+      ∙ ap (λ l. getD l 0 no-step) first
+
+-- a turn from the beginning that stops within a run stands there
+pub turn-reached : (sheet img : List ℕ) (p : Plan) (limit : ℕ) (t : Turned) (img′ : List ℕ) → TurnSays sheet img p 0 0 limit t img′
+    → t .word < getD (runsOf p) (t .run) none .words → Reached (runsOf p) (t .made) (t .run) (t .word)
+turn-reached sheet img p limit t img′ h l = record { word = l; here = h .walked .left ∙ ap (drop (t .made)) (sym (steps-rest (runsOf p))) }
