@@ -45,8 +45,8 @@ pub record IsStore (x sheet : List ℕ) (k : ℕ) (img : List ℕ) (r : Run) (w 
 
 module _ (x sheet : List ℕ) (ok : appendTest x sheet ≡ 0) (ox : Octets x) (os : Octets sheet) (c : Plan)
     (m : Matches (viewOf x) sheet (planOf (viewOf x) (rowsOf sheet)) c) where
-  -- each store has its cursor,
-  pub store-reached : (k : ℕ) → k < length (storesFor x sheet) → (r : ℕ) × ((w : ℕ) × Reached (runsOf c) k r w)
+  -- each store has its cursor
+  store-reached : (k : ℕ) → k < length (storesFor x sheet) → (r : ℕ) × ((w : ℕ) × Reached (runsOf c) k r w)
   store-reached k l = reached (runsOf c) k (rw (plan-count x sheet ok ox os c m) l)
 
   module _ (k r w : ℕ) (h : Reached (runsOf c) k r w) where
@@ -73,7 +73,7 @@ module _ (x sheet : List ℕ) (ok : appendTest x sheet ≡ 0) (ox : Octets x) (o
         img′ ≡ stored before (kthStore x sheet k .place) (kthStore x sheet k .bytes)
     store-made q = one-store q ∙ ap (λ s. stored before (s .place) (s .bytes)) (sym store-is)
 
-    -- and there the next store is this one
+    -- wherever such a cursor is, the next store there is this one
     pub next-store : IsStore x sheet k before (getD (runsOf c) r none) w
     next-store =
         let good : Good (length x) (length sheet) (getD (runsOf c) r none) = append-ready x sheet ok ox os c m .good r (reached-inside (runsOf c) k r w h) in
@@ -85,3 +85,11 @@ module _ (x sheet : List ℕ) (ok : appendTest x sheet ≡ 0) (ox : Octets x) (o
           made = store-made;
           left = λ q. store-made q ∙ sym one-more;
         }
+
+  -- For each k below the whole, at the cursor reached after k stores, the contract of `next_store` gives the word and the eight bytes
+  -- of the k-th store of the defined list
+  pub each-store : (k : ℕ) → k < length (storesFor x sheet) →
+      (r : ℕ) × ((w : ℕ) × (Reached (runsOf c) k r w × IsStore x sheet k (after x (take k (storesFor x sheet))) (getD (runsOf c) r none) w))
+  each-store k l =
+      let at = store-reached k l in
+      (at .0, (at .1 .0, (at .1 .1, next-store k (at .0) (at .1 .0) (at .1 .1))))
