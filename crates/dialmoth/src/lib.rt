@@ -93,8 +93,9 @@ pub extern "C" fn dialmoth_create(
     slots: u64,
     segments: u64,
 ) -> u64
-    ensures { λ r. ⌜ r ≡ createNumber (now (image .entry)) (now (application .entry)) (now (schema .entry)) slots segments ⌝ }
-    ensures { λ _. ⌜ now (image .exit) ≡ created (now (image .entry)) (now (application .entry)) (now (schema .entry)) «schema_version» slots segments ⌝ }
+    ensures number { λ r. ⌜ r ≡ createNumber (now (image .entry)) (now (application .entry)) (now (schema .entry)) slots segments ⌝ }
+    ensures image { λ _. ⌜ now (image .exit)
+        ≡ created (now (image .entry)) (now (application .entry)) (now (schema .entry)) «schema_version» slots segments ⌝ }
 {
     create(image, application, schema, schema_version, slots, segments)
 }
@@ -107,9 +108,9 @@ pub extern "C" fn dialmoth_append(
     limit: u64,
     out: &mut [u64; 2],
 ) -> u64
-    ensures { λ r. ⌜ r ≡ appendTest (now (image .entry)) (now (sheet .entry)) ⌝ }
-    ensures { λ _. ⌜ now (image .exit) ≡ appended (now (image .entry)) (now (sheet .entry)) limit ⌝ }
-    ensures { λ _. ⌜ now (out .exit) ≡ appendOut (now (image .entry)) (now (sheet .entry)) limit ⌝ }
+    ensures number { λ r. ⌜ r ≡ appendTest (now (image .entry)) (now (sheet .entry)) ⌝ }
+    ensures image { λ _. ⌜ now (image .exit) ≡ appended (now (image .entry)) (now (sheet .entry)) limit ⌝ }
+    ensures out { λ _. ⌜ now (out .exit) ≡ appendOut (now (image .entry)) (now (sheet .entry)) limit ⌝ }
 {
     let answer = append(image, sheet, limit);
     *out = [answer.done, answer.whole];

@@ -12,6 +12,7 @@ ghost use Rattle.gsd_format.specs.declared.Element.{Element};
 ghost use Rattle.gsd_format.specs.Answers.{openingNumber, listedNumber, placeNumber, elementNumber, bits64};
 ghost use Rattle.dialmoth.specs.Out.{openingOut, listedOut, placeOut, elementOut};
 
+// Frames, names, entries.
 pub(crate) fn put_counts(answer: Opening, out: &mut [u64; 3]) -> u64
     requires { ⌜ (answer ≡ Opening.Refused 0 → ⊥) ⌝ }
     ensures { λ r. ⌜ r ≡ openingNumber answer ⌝ }
@@ -26,6 +27,7 @@ pub(crate) fn put_counts(answer: Opening, out: &mut [u64; 3]) -> u64
     }
 }
 
+// The seven numbers of an entry.
 pub(crate) fn put_entry(answer: Listed, out: &mut [u64; 7]) -> u64
     requires { ⌜ (answer ≡ Listed.Refused 0 → ⊥) ⌝ }
     ensures { λ r. ⌜ r ≡ listedNumber answer ⌝ }
@@ -48,6 +50,7 @@ pub(crate) fn put_entry(answer: Listed, out: &mut [u64; 7]) -> u64
     }
 }
 
+// Start and length.
 pub(crate) fn put_part(answer: Place, out: &mut [u64; 2]) -> u64
     requires { ⌜ (answer ≡ Place.Refused 0 → ⊥) ⌝ }
     ensures { λ r. ⌜ r ≡ placeNumber answer ⌝ }
@@ -72,6 +75,7 @@ fn bits_of(number: i64) -> u64
     number as u64
 }
 
+// The kind and the bits.
 pub(crate) fn put_element(answer: Element, out: &mut [u64; 2]) -> u64
     requires { ⌜ (answer ≡ Element.Refused 0 → ⊥) ⌝ }
     ensures { λ r. ⌜ r ≡ elementNumber answer ⌝ }

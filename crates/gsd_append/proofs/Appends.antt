@@ -9,20 +9,21 @@ use Rattle.gsd_format.proofs.Bytes.{Octets}
 use Rattle.gsd_format.proofs.Refusals.{both}
 use Rattle.gsd_stores.specs.Stores.{after}
 use Rattle.gsd_stores.specs.View.{viewOf}
-use Rattle.gsd_stores.specs.Sheet.{rowsOf}
+use Rattle.gsd_stores.specs.Sheet.{rowsOf, Exact}
 use Rattle.gsd_stores.specs.Plan.{planOf}
 use Rattle.gsd_stores.specs.Append.{appendTest, storesFor, appendAnswer, appended}
-use Rattle.gsd_stores.proofs.Sheet.{Exact, accepted}
+use Rattle.gsd_stores.proofs.Sheet.{accepted}
 use Rattle.gsd_stores.proofs.Valid.{Valid, valid, Ready as Accepted, ready}
 use Rattle.gsd_stores.proofs.Limits.{refused-answer, refused-image}
 use Rattle.gsd_stores.proofs.View.{Is}
 use Rattle.gsd_stores.proofs.Shown.{opens-shown}
 use Rattle.gsd_stores.proofs.Moments.{stores-are}
-use Rattle.gsd_runs.specs.declared.plan.Plan.{Plan}
-use Rattle.gsd_runs.specs.declared.turn.Turned.{Turned}
 use Rattle.gsd_runs.specs.Exec.{steps, exec, storesOf}
-use Rattle.gsd_runs.specs.Runs.{none, runsOf, half, Ready}
-use Rattle.gsd_runs.specs.Turns.{ahead, Cursor, TurnSays}
+use Rattle.gsd_runs.specs.Runs.{none, half}
+use Rattle.gsd_turns.specs.declared.plan.Plan.{Plan}
+use Rattle.gsd_turns.specs.declared.turn.Turned.{Turned}
+use Rattle.gsd_turns.specs.Plans.{runsOf, Ready}
+use Rattle.gsd_turns.specs.Turns.{ahead, Cursor, TurnSays}
 use Rattle.gsd_append.specs.Matches.{Matches}
 use Rattle.gsd_runs.proofs.Steps.{steps-rest, exec-after, storesOf-length}
 use Rattle.gsd_runs.proofs.Runs.{good-more}

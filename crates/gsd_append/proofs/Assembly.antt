@@ -12,7 +12,8 @@ use Rattle.gsd_format.proofs.Names.{flat-none, flat-more}
 use Rattle.gsd_stores.specs.Sheet.{rowCount, tableEnd, rowsOf}
 use Rattle.gsd_stores.specs.Demand3.{noRow}
 use Rattle.gsd_stores.proofs.Sheet.{start-rises, name-length, body-length, rows-count}
-use Rattle.gsd_stores.proofs.Rows.{bodyOffset, offset-first, offset-next}
+use Rattle.gsd_stores.specs.Plan.{bodyOffset}
+use Rattle.gsd_stores.proofs.Rows.{offset-first, offset-next}
 use Rattle.gsd_runs.specs.Runs.{half}
 use Rattle.gsd_sheet.specs.Rows.{Located}
 use Rattle.gsd_parts.specs.RowIds.{RowNamed}

@@ -7,11 +7,10 @@ use native.Mathlib.Omega.{arith}
 use lib.ListN.{getD, length, take, length-map}
 use lib.Seq.{getD-take, length-take-le, ext-getD}
 use Rattle.gsd_format.specs.declared.Entry.{Entry}
-use Rattle.gsd_format.specs.Names.{indexOf}
+use Rattle.gsd_format.specs.Names.{indexOf, Distinct}
 use Rattle.gsd_format.specs.Entries.{framesOf}
 use Rattle.gsd_format.specs.Lookup.{none}
 use Rattle.gsd_format.proofs.Lists.{Each, Any, each-at, at-each, at-any}
-use Rattle.gsd_format.proofs.Ids.{Distinct}
 use Rattle.gsd_stores.specs.Sheet.{Row, rowNames}
 use Rattle.gsd_stores.specs.View.{View}
 use Rattle.gsd_stores.specs.Plan.{Plan, sorted}

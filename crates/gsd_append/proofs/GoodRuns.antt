@@ -10,24 +10,25 @@ use Rattle.gsd_format.specs.Names.{flat}
 use Rattle.gsd_format.proofs.Lists.{Each, each-at, each-append}
 use Rattle.gsd_format.proofs.Names.{flat-none, flat-size, flat-sizes}
 use Rattle.gsd_stores.specs.View.{View, entriesEnd, namesEnd, namelistEnd}
-use Rattle.gsd_stores.specs.Sheet.{Row, rowsOf, rowCount, tableEnd, mostRows}
+use Rattle.gsd_stores.specs.Sheet.{Row, rowsOf, rowCount, tableEnd, mostRows, nameAt, bodyAt, Exact}
 use Rattle.gsd_stores.specs.Plan.{Plan as Defined, dataEnd, namesDone}
 use Rattle.gsd_stores.specs.Steps.{nameBlock}
 use Rattle.gsd_stores.specs.Demand3.{noRow}
-use Rattle.gsd_stores.proofs.Sheet.{nameAt, bodyAt, Exact, rows-count, name-length, name-inside, body-length, body-inside, start-next}
+use Rattle.gsd_stores.proofs.Sheet.{rows-count, name-length, name-inside, body-length, body-inside, start-next}
 use Rattle.gsd_stores.proofs.Rows.{offset-even, offset-inside, new-names, new-few}
 use Rattle.gsd_stores.proofs.Plan.{positions, positions-even, segmentsAfter, entries-count}
 use Rattle.gsd_stores.proofs.View.{Is, is-long}
 use Rattle.gsd_stores.proofs.Valid.{Ready as Accepted}
 use Rattle.gsd_stores.proofs.Places.{blocks-even}
 use Rattle.gsd_runs.specs.declared.run.Run.{Run}
-use Rattle.gsd_runs.specs.declared.plan.Plan.{Plan}
 use Rattle.gsd_runs.specs.Exec.{Good, steps}
-use Rattle.gsd_runs.specs.Runs.{number, none, body, name, bodyRun, nameRun, ofFour, entryRun, tab, clears, block, slots, runsOf, Ready, headsFrom, copied}
+use Rattle.gsd_runs.specs.Runs.{number, none, body, name, copied}
+use Rattle.gsd_turns.specs.declared.plan.Plan.{Plan}
+use Rattle.gsd_turns.specs.Plans.{bodyRun, nameRun, ofFour, entryRun, tab, clears, block, slots, runsOf, Ready, headsFrom}
 use Rattle.gsd_parts.specs.Sites.{ifMoved}
 use Rattle.gsd_append.specs.Matches.{nameWords, HeadsMatch, NameMatch, Matches}
 use Rattle.gsd_runs.proofs.Steps.{stepsFrom-length}
-use Rattle.gsd_runs.proofs.Runs.{runs-length}
+use Rattle.gsd_turns.proofs.Plans.{runs-length}
 use Rattle.gsd_append.proofs.Blocks.{moveRuns}
 
 -- all runs of a list are good

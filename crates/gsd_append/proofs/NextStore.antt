@@ -15,13 +15,14 @@ use Rattle.gsd_stores.specs.Plan.{planOf}
 use Rattle.gsd_stores.specs.Append.{appendTest, storesFor}
 use Rattle.gsd_stores.proofs.Stores.{after-append}
 use Rattle.gsd_runs.specs.declared.run.Run.{Run}
-use Rattle.gsd_runs.specs.declared.plan.Plan.{Plan}
 use Rattle.gsd_runs.specs.Exec.{placeOf, wordOf, storeOf, Good, Step, steps}
-use Rattle.gsd_runs.specs.Runs.{none, runsOf}
+use Rattle.gsd_runs.specs.Runs.{none}
 use Rattle.gsd_runs.proofs.Words.{place-within, place-aligned}
 use Rattle.gsd_runs.proofs.Steps.{storesOf-at}
-use Rattle.gsd_runs.proofs.Turns.{Reached, reached, reached-inside, reached-more, reached-step}
 use Rattle.gsd_runs.proofs.OneStore.{OneStore, one-store}
+use Rattle.gsd_turns.specs.declared.plan.Plan.{Plan}
+use Rattle.gsd_turns.specs.Plans.{runsOf}
+use Rattle.gsd_turns.proofs.Turns.{Reached, reached, reached-inside, reached-more, reached-step}
 use Rattle.gsd_append.specs.Matches.{Matches}
 use Rattle.gsd_append.proofs.Appends.{plan-stores, plan-count, plan-prefix, append-ready}
 

@@ -10,6 +10,7 @@ use lib.Seq.{take-length}
 use lib.Dec.{ltb, eqb}
 use borrow.Author.Tests.{lt-ltb, le-ltb, eq-eqb, ne-eqb}
 use Rattle.gsd_format.specs.declared.Entry.{Entry}
+use Rattle.gsd_format.specs.declared.Layout.{Layout}
 use Rattle.gsd_format.specs.Bytes.{roundUp}
 use Rattle.gsd_format.specs.Header.{greatestLength, layoutOf}
 use Rattle.gsd_format.specs.Types.{chunkSize}
@@ -25,28 +26,28 @@ use Rattle.gsd_format.proofs.Entries.{image-entries}
 use Rattle.gsd_format.proofs.Walk.{chunks-none, chunks-more}
 use Rattle.gsd_format.proofs.Verdict.{Opens, verdict-zero}
 use Rattle.gsd_stores.specs.View.{View, viewOf, endOfUse, indexEnd, namelistEnd}
-use Rattle.gsd_stores.specs.Sheet.{Row, rowCount, rowsOf, sheetTest}
-use Rattle.gsd_stores.specs.Plan.{Plan as Defined, planOf, newNames, grown, dataEnd, finalPosition}
+use Rattle.gsd_stores.specs.Sheet.{Row, rowCount, rowsOf, sheetTest, rowAt, nameAt, bodyAt}
+use Rattle.gsd_stores.specs.Plan.{Plan as Defined, planOf, newNames, grown, dataEnd, finalPosition, bodyOffset}
 use Rattle.gsd_stores.specs.Steps.{nameBlock, indexBlock}
-use Rattle.gsd_stores.specs.Append.{planTest, appendTest}
+use Rattle.gsd_stores.specs.Append.{imageTest, planTest, appendTest}
 use Rattle.gsd_stores.specs.Demand3.{noRow}
-use Rattle.gsd_stores.proofs.Sheet.{Accepted, accepted, rowFrom, rowAt, nameAt, bodyAt, rows-count, row-at}
-use Rattle.gsd_stores.proofs.Rows.{bodyOffset, offset-last, new-names, new-few, all-has}
+use Rattle.gsd_stores.proofs.Sheet.{Accepted, accepted, rowFrom, rows-count, row-at}
+use Rattle.gsd_stores.proofs.Rows.{offset-last, new-names, new-few, all-has}
 use Rattle.gsd_stores.proofs.Plan.{Planned, end-of-use, namesAfter, rowEntry, entries-count, positions, grown-enough, doubled-range}
 use Rattle.gsd_stores.proofs.Plan.{planned as plan-is}
 use Rattle.gsd_open.specs.declared.survey.Survey.{Survey}
-use Rattle.gsd_open.specs.NameLists.{namesIn}
+use Rattle.gsd_names.specs.NameLists.{namesIn}
 use Rattle.gsd_open.specs.Surveys.{Surveyed}
 use Rattle.gsd_open.proofs.Surveys.{kept-names, many-names as survey-many}
-use Rattle.gsd_runs.specs.declared.plan.Plan.{Plan}
+use Rattle.gsd_turns.specs.declared.plan.Plan.{Plan}
 use Rattle.gsd_parts.specs.declared.sites.Sites.{Sites}
 use Rattle.gsd_parts.specs.declared.fill.BodyPlaces.{BodyPlaces}
 use Rattle.gsd_parts.specs.declared.fill.NamePlaces.{NamePlaces}
 use Rattle.gsd_parts.specs.declared.fill.EntryNumbers.{EntryNumbers}
 use Rattle.gsd_parts.specs.declared.ids.Ids.{Ids}
-use Rattle.gsd_append.specs.declared.planner.Seen.{Seen}
 use Rattle.gsd_append.specs.declared.planner.Planning.{Planning}
-use Rattle.gsd_runs.specs.Runs.{Heads, headsFrom, half, planFrom}
+use Rattle.gsd_runs.specs.Runs.{half}
+use Rattle.gsd_turns.specs.Plans.{Heads, headsFrom, planFrom}
 use Rattle.gsd_parts.specs.Order.{Sorted}
 use Rattle.gsd_parts.specs.RowIds.{RowNamed, IdsFound}
 use Rattle.gsd_sheet.specs.Rows.{Located}
@@ -98,15 +99,15 @@ unfolding planOf
 plan-start v rs = refl
 
 -- the same, as they are seen
-pub record Within (s : Seen) : Type 0 where
+pub record Within (s : Survey) : Type 0 where
   pub index : indexEnd (s .layout) ≤ greatestLength
   pub names : namelistEnd (s .layout) ≤ greatestLength
-  pub chunks : s .chunks ≤ greatestLength
+  pub chunks : s .«chunks_end» ≤ greatestLength
   pub entries : s .entries ≤ s .layout .slots
-  pub low : s .layout .namelist ≤ s .end
-  pub high : s .end ≤ namelistEnd (s .layout)
+  pub low : s .layout .namelist ≤ s .names .«list_end»
+  pub high : s .names .«list_end» ≤ namelistEnd (s .layout)
 
-module _ (x : List ℕ) (s : Seen) (see : Sees x s) where
+module _ (x : List ℕ) (s : Survey) (see : Sees x s) where
   room : Room (viewOf x)
   room = view-room x (see .opens)
 
@@ -116,15 +117,15 @@ module _ (x : List ℕ) (s : Seen) (see : Sees x s) where
     names = omega (arith, ap namelistEnd (see .layout), room .names, room .long);
     chunks = omega (arith, see .chunks, room .chunks, room .long);
     entries = omega (arith, see .entries, ap (λ l. l .slots) (see .layout), room .entries);
-    low = omega (arith, see .end, ap (λ l. l .namelist) (see .layout));
-    high = omega (arith, see .end, ap namelistEnd (see .layout), ap (λ l. l .namelist) (see .layout), room .listed);
+    low = omega (arith, see .listEnd, ap (λ l. l .namelist) (see .layout));
+    high = omega (arith, see .listEnd, ap namelistEnd (see .layout), ap (λ l. l .namelist) (see .layout), room .listed);
   }
 
-  pub use-need : (indexEnd (s .layout) ≤ greatestLength) × (namelistEnd (s .layout) ≤ greatestLength) × (s .chunks ≤ greatestLength)
-  use-need = (seen-within .index, seen-within .names, seen-within .chunks)
+  pub use-need : (indexEnd (s .layout) ≤ greatestLength) × ((namelistEnd (s .layout) ≤ greatestLength) × (s .«chunks_end» ≤ greatestLength))
+  use-need = (seen-within .index, (seen-within .names, seen-within .chunks))
 
   -- where the data begin
-  pub use-found : (r : ℕ) → r ≡ roundUp 8 (max 256 (max (indexEnd (s .layout)) (max (namelistEnd (s .layout)) (s .chunks)))) → r ≡ endOfUse (viewOf x)
+  pub use-found : (r : ℕ) → r ≡ roundUp 8 (max 256 (max (indexEnd (s .layout)) (max (namelistEnd (s .layout)) (s .«chunks_end»)))) → r ≡ endOfUse (viewOf x)
   unfolding endOfUse
   use-found r e = e ∙ λ i. roundUp 8 (max 256 (max (indexEnd (see .layout i)) (max (namelistEnd (see .layout i)) (see .chunks i))))
 
@@ -133,7 +134,7 @@ module _ (x : List ℕ) (s : Seen) (see : Sees x s) where
 
 -- The sheet's rows placed
 
-module _ (x sheet : List ℕ) (s : Seen) (see : Sees x s) (names bodies : List ℕ) (count : ℕ) (ids : Ids) (ask : Asked x sheet names bodies count ids) where
+module _ (x sheet : List ℕ) (s : Survey) (see : Sees x s) (names bodies : List ℕ) (count : ℕ) (ids : Ids) (ask : Asked x sheet names bodies count ids) where
   abbrev v : View
   v = viewOf x
 
@@ -195,18 +196,19 @@ module _ (x sheet : List ℕ) (s : Seen) (see : Sees x s) (names bodies : List �
       few-fresh,
     )
 
-    pub bytes-small : s .end - s .layout .namelist + ids .size < 1099511627776
+    pub bytes-small : s .names .«list_end» - s .layout .namelist + ids .size < 1099511627776
     bytes-small = let w : Within s = seen-within x s see in omega (arith, size-small)
 
   pub entries-small : s .entries + count < 1099511627776
   entries-small = let w : Within s = seen-within x s see in omega (arith, few-rows)
 
   pub sites-need : (end : ℕ) → end ≤ length x → (bytes : ℕ) → bytes < 1099511627776 →
-      (end < 1152921504606846976) × (bytes < 1099511627776) × (s .entries + count < 1099511627776) × (s .layout .slots < 1099511627776) × (s .layout .segments < 1099511627776)
+      (end < 1152921504606846976)
+      × ((bytes < 1099511627776) × ((s .entries + count < 1099511627776) × ((s .layout .slots < 1099511627776) × (s .layout .segments < 1099511627776))))
   sites-need end e bytes f =
       let w : Within s = seen-within x s see in
       let long : length x ≤ greatestLength = omega (arith, view-room x (see .opens) .long, view-length x) in
-      (omega arith, f, entries-small, omega arith, omega arith)
+      (omega arith, (f, (entries-small, (omega arith, omega arith))))
 
   module _ (start : ℕ) (started : start ≡ endOfUse v) (b : BodyPlaces) (placed : BodiesPlaced names bodies count start b) where
     pub ends : b .end ≡ dataEnd p
@@ -224,9 +226,9 @@ module _ (x sheet : List ℕ) (s : Seen) (see : Sees x s) (names bodies : List �
     pub data-long : length x < b .end → (ltb (v .layout .len) (finalPosition p) ⇒ 29) ≡ 29
     data-long l = met (ltb (v .layout .len) (finalPosition p)) 29 (lt-ltb (v .layout .len) (finalPosition p) (omega (arith, ends, positions p, view-length x)))
 
-    module _ (sites : Sites) (bytes : ℕ) (sized : bytes ≡ s .end - s .layout .namelist + ids .size) (found : sites ≡ sitesOf (s .layout) (b .end) bytes (s .entries + count)) where
+    module _ (sites : Sites) (bytes : ℕ) (sized : bytes ≡ s .names .«list_end» - s .layout .namelist + ids .size) (found : sites ≡ sitesOf (s .layout) (b .end) bytes (s .entries + count)) where
       bytes-are : bytes ≡ allBytes v p
-      bytes-are = omega (arith, see .end, ap (λ l. l .namelist) (see .layout), ask .found .size, ap (λ ns. length (flat ns)) (plan .fresh))
+      bytes-are = omega (arith, see .listEnd, ap (λ l. l .namelist) (see .layout), ask .found .size, ap (λ ns. length (flat ns)) (plan .fresh))
 
       entries-are : s .entries + count ≡ allEntries v p
       entries-are = omega (arith, see .entries, count-is, entries-count v rs p plan)
@@ -245,7 +247,7 @@ module _ (x sheet : List ℕ) (s : Seen) (see : Sees x s) (names bodies : List �
         pub sites-fit : (ltb (v .layout .len) (finalPosition p) ⇒ 29) ≡ 0
         sites-fit = passed (ltb (v .layout .len) (finalPosition p)) 29 (le-ltb (v .layout .len) (finalPosition p) (omega (arith, sites-end, view-length x)))
 
-        pub sited : bytes < 1099511627776 → s .entries + count < 1099511627776 → Sited (s .layout) (s .entries) (s .end) sites
+        pub sited : bytes < 1099511627776 → s .entries + count < 1099511627776 → Sited (s .layout) (s .entries) (s .names .«list_end») sites
         sited few many =
             let w : Within s = seen-within x s see in
             let segments : sites .segments ≡ grown ((bytes + 63) / 64) (s .layout .segments) = ap (λ q. q .segments) found in
@@ -267,10 +269,10 @@ module _ (x sheet : List ℕ) (s : Seen) (see : Sees x s) (names bodies : List �
               grownIndex = λ t. omega (arith, grown-enough (s .entries + count) (s .layout .slots));
             }
 
-        heads-are : (h : Heads) → h ≡ headsOf (clearsOf (s .layout) (s .entries) (s .end)) (nameBlockOf (s .layout) (s .end) sites) (indexBlockOf (s .layout) (s .entries) sites)
+        heads-are : (h : Heads) → h ≡ headsOf (clearsOf (s .layout) (s .entries) (s .names .«list_end»)) (nameBlockOf (s .layout) (s .names .«list_end») sites) (indexBlockOf (s .layout) (s .entries) sites)
             → HeadsMatch v p h
         heads-are h e =
-            let f : h ≡ _ = e ∙ λ i. headsOf (clearsOf (see .layout i) (see .entries i) (see .end i)) (nameBlockOf (see .layout i) (see .end i) (sites-are i))
+            let f : h ≡ _ = e ∙ λ i. headsOf (clearsOf (see .layout i) (see .entries i) (see .listEnd i)) (nameBlockOf (see .layout i) (see .listEnd i) (sites-are i))
             (indexBlockOf (see .layout i) (see .entries i) (sites-are i)) in
             subst (HeadsMatch v p) (sym f) (heads-match v rs)
 
@@ -351,7 +353,7 @@ module _ (x sheet : List ℕ) (s : Seen) (see : Sees x s) (names bodies : List �
                 omega (
                   arith,
                   name-block,
-                  see .end,
+                  see .listEnd,
                   ap (λ y. y .namelist) (see .layout),
                   name-offset (ask .located) (ids .rows) fresh row-named j (omega arith),
                   ap (λ ns. length (flat (take j ns))) (plan .fresh),
@@ -379,7 +381,7 @@ module _ (x sheet : List ℕ) (s : Seen) (see : Sees x s) (names bodies : List �
                   location = q .newEntries .location .at k n ∙ data-place row r;
                 })
 
-            pub matched : headsFrom h ≡ headsOf (clearsOf (s .layout) (s .entries) (s .end)) (nameBlockOf (s .layout) (s .end) sites) (indexBlockOf (s .layout) (s .entries) sites)
+            pub matched : headsFrom h ≡ headsOf (clearsOf (s .layout) (s .entries) (s .names .«list_end»)) (nameBlockOf (s .layout) (s .names .«list_end») sites) (indexBlockOf (s .layout) (s .entries) sites)
                 → Matches v sheet p c
             matched e = record {
               rows = q .rows ∙ count-is;
@@ -398,16 +400,16 @@ cond-below : (m : Bool) (a b n : ℕ) → a < n → b < n → cond m a b < n
 cond-below true a b n h g = h
 cond-below false a b n h g = g
 
-module _ {sheet names bodies which order : List ℕ} {count new : ℕ} {v : Seen} {s : Sites} (j : Joinable sheet names bodies which order count new v s) where
-  pub block-small : (block : ℕ) → block ≡ cond (s .«names_move») (s .body) (v .layout .namelist) → block + (v .end - v .layout .namelist) < 4611686018427387904
+module _ {sheet names bodies which order : List ℕ} {count new : ℕ} {v : Survey} {s : Sites} (j : Joinable sheet names bodies which order count new v s) where
+  pub block-small : (block : ℕ) → block ≡ cond (s .«names_move») (s .body) (v .layout .namelist) → block + (v .names .«list_end» - v .layout .namelist) < 4611686018427387904
   block-small block e = omega (arith, cond-below (s .«names_move») (s .body) (v .layout .namelist) 1152921504606846976 (j .body) (omega (arith, j .layout)), j .layout)
 
   pub index-small : (index : ℕ) → index ≡ cond (s .«index_moves») (s .names) (v .layout .index) → index + 32 * v .entries < 4611686018427387904
   index-small index e = omega (arith, cond-below (s .«index_moves») (s .names) (v .layout .index) 1152921504606846976 (j .block) (omega (arith, j .index)), j .index)
 
-pub joined : (sheet names bodies which order : List ℕ) (count new : ℕ) (v : Seen) (s : Sites) (h : List ℕ) (b : BodyPlaces) (block index : ℕ) (found : NamePlaces)
+pub joined : (sheet names bodies which order : List ℕ) (count new : ℕ) (v : Survey) (s : Sites) (h : List ℕ) (b : BodyPlaces) (block index : ℕ) (found : NamePlaces)
     (numbers : EntryNumbers) → block ≡ cond (s .«names_move») (s .body) (v .layout .namelist) → index ≡ cond (s .«index_moves») (s .names) (v .layout .index) →
-    NamesPlaced names bodies which new (block + (v .end - v .layout .namelist)) found → EntriesFilled sheet order (b .to) count numbers →
+    NamesPlaced names bodies which new (block + (v .names .«list_end» - v .layout .namelist)) found → EntriesFilled sheet order (b .to) count numbers →
     Joined sheet names bodies which order count new v s h b
     (planFrom count new h (b .to) bodies (b .until) (found .at) (found .from) (found .until) (index + 32 * v .entries) (v .frames) (numbers .n) (numbers .meta) (numbers .location))
 joined sheet names bodies which order count new v s h b block index found numbers e f n m = record {
@@ -447,15 +449,15 @@ module _ (x starts : List ℕ) (s : Survey) (told : Surveyed x starts s) (good :
   unfolding viewOf
   layout-is = told .layout good
 
-  pub sees : Sees x (record { layout = s .layout; entries = s .entries; frames = s .frames; end = s .names .end; chunks = s .end })
+  pub sees : Sees x s
   unfolding viewOf
   sees = record {
     opens = opens;
     layout = told .layout good;
     entries = told .entries good;
     frames = told .frames good;
-    end = told .names good .end ∙ ap (λ ns. layoutOf x .namelist + length (flat ns)) (sym (names-of x));
-    chunks = told .end good;
+    listEnd = told .names good .listEnd ∙ ap (λ ns. layoutOf x .namelist + length (flat ns)) (sym (names-of x));
+    chunks = told .chunks good;
   }
 
   pub listed-many : s .names .count ≡ length (viewOf x .names)
@@ -483,49 +485,51 @@ module _ (x sheet : List ℕ) where
     pub asked : (names bodies : List ℕ) (count : ℕ) → sheetTest sheet ≡ 0 → Located sheet names bodies → count ≡ rowCount sheet → Asked x sheet names bodies count ids
     asked names bodies count a h e = record { accepted = a; located = h; counted = e; found = found-ids }
 
-  -- the opening's number
-  pub not-opened : (n : ℕ) (r : Planning) → n ≡ verdict x → (n ≡ 0 → ⊥) → r .number ≡ n → Plans x sheet (appendTest x sheet) r
+  -- Number by number
+
+  all-tests : appendTest x sheet ≡ verdict x ▹ imageTest (viewOf x .layout) ▹ sheetTest sheet ▹ planTest x sheet
   unfolding appendTest
-  not-opened n r e f g =
-      let k : (verdict x ≡ 0 → ⊥) = λ z. f (e ∙ z) in
-      let t : appendTest x sheet ≡ verdict x = stays (verdict x) _ k in
-      record { number = g ∙ e ∙ sym t; plan = λ z. absurd (k (sym t ∙ z)) }
+  all-tests = refl
+
+  -- a number that is not 0 decides
+  stops : (n k rest : ℕ) (r : Planning) → appendTest x sheet ≡ k ▹ rest → n ≡ k → (n ≡ 0 → ⊥) → r .number ≡ n → Plans x sheet (appendTest x sheet) r
+  stops n k rest r t e f g =
+      let z : (k ≡ 0 → ⊥) = λ q. f (e ∙ q) in
+      let u : appendTest x sheet ≡ k = t ∙ stays k rest z in
+      record { number = g ∙ e ∙ sym u; plan = λ q. absurd (z (sym u ∙ q)) }
+
+  pub not-opened : (n : ℕ) (r : Planning) → n ≡ verdict x → (n ≡ 0 → ⊥) → r .number ≡ n → Plans x sheet (appendTest x sheet) r
+  not-opened n r = stops n _ _ r all-tests
 
   module _ (starts : List ℕ) (s : Survey) (told : Surveyed x starts s) (good : s .number ≡ 0) where
-    -- 21
-    pub odd-index : (s .layout .index % 8 ≡ 0 → ⊥) → appendTest x sheet ≡ 21
-    unfolding appendTest
-    odd-index f =
-        first-of (verdict x) _ (opens x starts s told good)
-        ∙ decides _ 20 _ (left-holds (not (eqb (viewOf x .layout .index % 8) 0)) _ (rw (ne-eqb (viewOf x .layout .index % 8) 0 (λ e. f (ap (λ l. l .index % 8) (layout-is x starts s told good) ∙ e)))))
+    image-next : appendTest x sheet ≡ imageTest (s .layout) ▹ sheetTest sheet ▹ planTest x sheet
+    image-next =
+        all-tests ∙ first-of (verdict x) _ (opens x starts s told good)
+        ∙ ap (λ l. imageTest l ▹ sheetTest sheet ▹ planTest x sheet) (sym (layout-is x starts s told good))
 
-    module _ (even : s .layout .index % 8 ≡ 0) where
-      index-even : not (eqb (viewOf x .layout .index % 8) 0) ≡ false
-      index-even = not-of (eqb (viewOf x .layout .index % 8) 0) (eq-eqb _ _ (sym (ap (λ l. l .index % 8) (layout-is x starts s told good)) ∙ even))
+    pub bad-image : (n : ℕ) (r : Planning) → n ≡ imageTest (s .layout) → (n ≡ 0 → ⊥) → r .number ≡ n → Plans x sheet (appendTest x sheet) r
+    bad-image n r = stops n _ _ r image-next
 
-      pub odd-names : (s .layout .namelist % 8 ≡ 0 → ⊥) → appendTest x sheet ≡ 21
-      unfolding appendTest
-      odd-names f =
-          first-of (verdict x) _ (opens x starts s told good)
-          ∙ decides _ 20 _ (right-decides (not (eqb (viewOf x .layout .index % 8) 0)) _ index-even
-          ∙ rw (ne-eqb (viewOf x .layout .namelist % 8) 0 (λ e. f (ap (λ l. l .namelist % 8) (layout-is x starts s told good) ∙ e))))
+    module _ (even : imageTest (s .layout) ≡ 0) where
+      sheet-next : appendTest x sheet ≡ sheetTest sheet ▹ planTest x sheet
+      sheet-next = image-next ∙ first-of (imageTest (s .layout)) _ even
 
-      module _ (even′ : s .layout .namelist % 8 ≡ 0) where
-        names-even : not (eqb (viewOf x .layout .namelist % 8) 0) ≡ false
-        names-even = not-of (eqb (viewOf x .layout .namelist % 8) 0) (eq-eqb _ _ (sym (ap (λ l. l .namelist % 8) (layout-is x starts s told good)) ∙ even′))
+      pub bad-sheet : (n : ℕ) (r : Planning) → n ≡ sheetTest sheet → (n ≡ 0 → ⊥) → r .number ≡ n → Plans x sheet (appendTest x sheet) r
+      bad-sheet n r = stops n _ _ r sheet-next
 
-        sheet-next : appendTest x sheet ≡ sheetTest sheet ▹ planTest x sheet
-        unfolding appendTest
-        sheet-next =
-            first-of (verdict x) _ (opens x starts s told good)
-            ∙ goes-on _ 21 _ (neither-of (not (eqb (viewOf x .layout .index % 8) 0)) (not (eqb (viewOf x .layout .namelist % 8) 0)) index-even names-even)
+      pub good-sheet : sheetTest sheet ≡ 0 → appendTest x sheet ≡ planTest x sheet
+      good-sheet e = sheet-next ∙ first-of (sheetTest sheet) (planTest x sheet) e
 
-        -- the sheet's number
-        pub bad-sheet : (n : ℕ) (r : Planning) → n ≡ sheetTest sheet → (n ≡ 0 → ⊥) → r .number ≡ n → Plans x sheet (appendTest x sheet) r
-        bad-sheet n r e f g =
-            let k : (sheetTest sheet ≡ 0 → ⊥) = λ z. f (e ∙ z) in
-            let t : appendTest x sheet ≡ sheetTest sheet = sheet-next ∙ stays (sheetTest sheet) (planTest x sheet) k in
-            record { number = g ∙ e ∙ sym t; plan = λ z. absurd (k (sym t ∙ z)) }
+-- 21: where a block does not lie at a word
+module _ (l : Layout) where
+  pub odd-index : (l .index % 8 ≡ 0 → ⊥) → 21 ≡ imageTest l
+  unfolding imageTest
+  odd-index f = sym (met _ 21 (left-holds (not (eqb (l .index % 8) 0)) _ (rw (ne-eqb (l .index % 8) 0 f))))
 
-        pub good-sheet : sheetTest sheet ≡ 0 → appendTest x sheet ≡ planTest x sheet
-        good-sheet e = sheet-next ∙ first-of (sheetTest sheet) (planTest x sheet) e
+  pub odd-names : l .index % 8 ≡ 0 → (l .namelist % 8 ≡ 0 → ⊥) → 21 ≡ imageTest l
+  unfolding imageTest
+  odd-names e f = sym (met _ 21 (right-decides (not (eqb (l .index % 8) 0)) _ (not-of _ (eq-eqb (l .index % 8) 0 e)) ∙ rw (ne-eqb (l .namelist % 8) 0 f)))
+
+  pub both-even : l .index % 8 ≡ 0 → l .namelist % 8 ≡ 0 → 0 ≡ imageTest l
+  unfolding imageTest
+  both-even e f = sym (passed _ 21 (neither-of (not (eqb (l .index % 8) 0)) (not (eqb (l .namelist % 8) 0)) (not-of _ (eq-eqb _ _ e)) (not-of _ (eq-eqb _ _ f))))

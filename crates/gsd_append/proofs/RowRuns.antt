@@ -8,32 +8,33 @@ use native.Mathlib.Decide.{decLt}
 use lib.ListN.{length, getD, take, length-append, List·getD-append, List·getD-eq-default}
 use lib.Seq.{getD-append-add}
 use Rattle.gsd_format.specs.declared.Entry.{Entry}
-use Rattle.gsd_format.specs.Bytes.{le}
+use Rattle.gsd_format.specs.Bytes.{le, Apart}
 use Rattle.gsd_format.specs.Header.{headerSize}
 use Rattle.gsd_format.specs.Names.{flat}
 use Rattle.gsd_format.specs.Entries.{entryAt}
 use Rattle.gsd_format.specs.Lookup.{none as noEntry}
-use Rattle.gsd_format.proofs.Bytes.{Octets, Text, Apart, le-two, le-four, le-eight}
+use Rattle.gsd_format.proofs.Bytes.{Octets, Text, le-two, le-four, le-eight}
 use Rattle.gsd_format.proofs.Lists.{Each}
 use Rattle.gsd_format.proofs.Names.{Named, flat-size, flat-more}
 use Rattle.gsd_format.proofs.Entries.{Fits}
 use Rattle.gsd_stores.specs.Stores.{words, up, down, slotsDown}
 use Rattle.gsd_stores.specs.View.{View, namesEnd, namelistEnd}
-use Rattle.gsd_stores.specs.Sheet.{Row, rowsOf, rowCount, tableEnd}
-use Rattle.gsd_stores.specs.Plan.{Plan as Defined, bodies}
+use Rattle.gsd_stores.specs.Sheet.{Row, rowsOf, rowCount, tableEnd, nameAt, bodyAt, Exact}
+use Rattle.gsd_stores.specs.Plan.{Plan as Defined, bodies, bodyOffset}
 use Rattle.gsd_stores.specs.Steps.{storeData, storeName, storeNames, indexBytes, storeEntries}
 use Rattle.gsd_stores.specs.Demand3.{noRow}
 use Rattle.gsd_stores.proofs.Stores.{words-append, up-append}
 use Rattle.gsd_stores.proofs.View.{withNames, is-long, Stage}
 use Rattle.gsd_stores.proofs.NewNames.{one-name}
 use Rattle.gsd_stores.proofs.NewEntries.{index-entry}
-use Rattle.gsd_stores.proofs.Sheet.{nameAt, bodyAt, Exact, rows-count, body-length, body-text, start-next}
+use Rattle.gsd_stores.proofs.Sheet.{rows-count, body-length, body-text, start-next}
 use Rattle.gsd_stores.proofs.Rows.{padded-length, padded-byte, bodies-even, bodies-text}
-use Rattle.gsd_stores.proofs.Rows.{bodyOffset, offset-first, offset-next, offset-even, offset-inside, offset-last}
+use Rattle.gsd_stores.proofs.Rows.{offset-first, offset-next, offset-even, offset-inside, offset-last}
 use Rattle.gsd_runs.specs.declared.run.Run.{Run}
-use Rattle.gsd_runs.specs.declared.plan.Plan.{Plan}
 use Rattle.gsd_runs.specs.Exec.{over, steps, storesOf}
-use Rattle.gsd_runs.specs.Runs.{number, body, name, bodyRun, nameRun, ofFour, entryRun, tab}
+use Rattle.gsd_runs.specs.Runs.{number, body, name}
+use Rattle.gsd_turns.specs.declared.plan.Plan.{Plan}
+use Rattle.gsd_turns.specs.Plans.{bodyRun, nameRun, ofFour, entryRun, tab}
 use Rattle.gsd_append.specs.Matches.{BodyMatch, EntryMatch}
 use Rattle.gsd_runs.proofs.Words.{over-below, over-inside, over-above}
 use Rattle.gsd_append.proofs.Octets.{text-octets, octets-append, flat-octets, bodies-octets, index-octets}

@@ -10,11 +10,11 @@ use Rattle.gsd_format.specs.Names.{flat}
 use Rattle.gsd_format.proofs.Bytes.{Octets, part-length, part-at}
 use Rattle.gsd_format.proofs.Texts.{part-text}
 use Rattle.gsd_stores.specs.View.{View, entriesEnd}
-use Rattle.gsd_stores.specs.Sheet.{Row, rowsOf, rowCount}
+use Rattle.gsd_stores.specs.Sheet.{Row, rowsOf, rowCount, nameAt, bodyAt, Exact}
 use Rattle.gsd_stores.specs.Plan.{Plan as Defined, dataEnd, namesDone}
 use Rattle.gsd_stores.specs.Steps.{moveNames, moveIndex, storeData, storeNames, storeEntries, nameBlock, indexBlock, stepsOf}
 use Rattle.gsd_stores.specs.Demand3.{noRow}
-use Rattle.gsd_stores.proofs.Sheet.{nameAt, bodyAt, Exact, rows-count, name-length, name-text, name-inside}
+use Rattle.gsd_stores.proofs.Sheet.{rows-count, name-length, name-text, name-inside}
 use Rattle.gsd_stores.proofs.View.{Is, is-long, Base, base-start, Stage}
 use Rattle.gsd_stores.proofs.Plan.{positions, entries-count}
 use Rattle.gsd_stores.proofs.Good.{roomy, named, ready, Good}
@@ -23,9 +23,9 @@ use Rattle.gsd_stores.proofs.Valid.{Ready as Accepted}
 use Rattle.gsd_stores.proofs.Moments.{ready-good}
 use Rattle.gsd_stores.proofs.Clear.{store-data}
 use Rattle.gsd_stores.proofs.Whole.{names-fit, data-fits, room-before, room-roomy, room-names, block-even}
-use Rattle.gsd_runs.specs.declared.plan.Plan.{Plan}
 use Rattle.gsd_runs.specs.Exec.{steps, storesOf}
-use Rattle.gsd_runs.specs.Runs.{Heads, bodyRun, nameRun, entryRun, tab, block, slots, runsOf}
+use Rattle.gsd_turns.specs.declared.plan.Plan.{Plan}
+use Rattle.gsd_turns.specs.Plans.{Heads, bodyRun, nameRun, entryRun, tab, block, slots, runsOf}
 use Rattle.gsd_append.specs.Matches.{nameWords, HeadsMatch, NameMatch, Matches}
 use Rattle.gsd_append.proofs.Octets.{text-octets}
 use Rattle.gsd_append.proofs.Makes.{Makes, AnyImage, AnyStore, Always, makes-from, _⨾_}

@@ -9,14 +9,13 @@ use Rattle.gsd_format.specs.Names.{flat}
 use Rattle.gsd_format.specs.Entries.{framesOf}
 use Rattle.gsd_format.specs.Lookup.{none as noEntry}
 use Rattle.gsd_stores.specs.View.{View, entriesEnd, namesEnd, namelistEnd}
-use Rattle.gsd_stores.specs.Sheet.{rowsOf}
-use Rattle.gsd_stores.specs.Plan.{Plan as Defined, dataEnd, namesDone}
+use Rattle.gsd_stores.specs.Sheet.{rowsOf, nameAt, bodyAt}
+use Rattle.gsd_stores.specs.Plan.{Plan as Defined, dataEnd, namesDone, bodyOffset}
 use Rattle.gsd_stores.specs.Steps.{nameBlock, indexBlock}
 use Rattle.gsd_stores.specs.Demand3.{noRow}
-use Rattle.gsd_stores.proofs.Sheet.{nameAt, bodyAt}
-use Rattle.gsd_stores.proofs.Rows.{bodyOffset}
-use Rattle.gsd_runs.specs.declared.plan.Plan.{Plan}
-use Rattle.gsd_runs.specs.Runs.{Heads, headsFrom, number, copied}
+use Rattle.gsd_runs.specs.Runs.{number, copied}
+use Rattle.gsd_turns.specs.declared.plan.Plan.{Plan}
+use Rattle.gsd_turns.specs.Plans.{Heads, headsFrom}
 use Rattle.gsd_parts.specs.Sites.{ifMoved}
 
 -- the word that holds the name list's end, and the words from there to the name block's end; the words that hold the names

@@ -8,14 +8,13 @@ use Rattle.gsd_format.specs.Header.{greatestLength}
 use Rattle.gsd_format.specs.Entries.{framesOf, chunksEnd}
 use Rattle.gsd_format.specs.Opening.{verdict}
 use Rattle.gsd_stores.specs.View.{viewOf, namesEnd}
-use Rattle.gsd_stores.specs.Sheet.{rowCount, rowsOf, sheetTest}
+use Rattle.gsd_stores.specs.Sheet.{rowCount, rowsOf, sheetTest, rowAt}
 use Rattle.gsd_stores.specs.Plan.{Plan as Defined, planOf}
-use Rattle.gsd_stores.proofs.Sheet.{rowAt}
-use Rattle.gsd_runs.specs.declared.plan.Plan.{Plan}
+use Rattle.gsd_turns.specs.declared.plan.Plan.{Plan}
 use Rattle.gsd_parts.specs.declared.sites.Sites.{Sites}
 use Rattle.gsd_parts.specs.declared.fill.BodyPlaces.{BodyPlaces}
 use Rattle.gsd_parts.specs.declared.ids.Ids.{Ids}
-use Rattle.gsd_append.specs.declared.planner.Seen.{Seen}
+use Rattle.gsd_open.specs.declared.survey.Survey.{Survey}
 use Rattle.gsd_append.specs.declared.planner.Planning.{Planning}
 use Rattle.gsd_sheet.specs.Rows.{Located}
 use Rattle.gsd_parts.specs.RowIds.{IdsFound}
@@ -27,13 +26,13 @@ abbrev pub planned : List ℕ → List ℕ → Defined
 planned x sheet = planOf (viewOf x) (rowsOf sheet)
 
 -- what is seen of an image that opens
-pub record Sees (x : List ℕ) (s : Seen) : Type 0 where
+pub record Sees (x : List ℕ) (s : Survey) : Type 0 where
   pub opens : verdict x ≡ 0
   pub layout : s .layout ≡ viewOf x .layout
   pub entries : s .entries ≡ length (viewOf x .entries)
   pub frames : s .frames ≡ framesOf (viewOf x .entries)
-  pub end : s .end ≡ namesEnd (viewOf x)
-  pub chunks : s .chunks ≡ chunksEnd (viewOf x .entries)
+  pub listEnd : s .names .«list_end» ≡ namesEnd (viewOf x)
+  pub chunks : s .«chunks_end» ≡ chunksEnd (viewOf x .entries)
 
 -- an accepted sheet, where its rows lie, and the ids of their names
 pub record Asked (x sheet names bodies : List ℕ) (count : ℕ) (ids : Ids) : Type 0 where
@@ -43,14 +42,14 @@ pub record Asked (x sheet names bodies : List ℕ) (count : ℕ) (ids : Ids) : T
   pub found : IdsFound (viewOf x .names) (rowsOf sheet) ids
 
 -- where the first new name and the first new entry go
-abbrev pub firstName : Seen → Sites → ℕ
-firstName v s = cond (s .«names_move») (s .body) (v .layout .namelist) + (v .end - v .layout .namelist)
+abbrev pub firstName : Survey → Sites → ℕ
+firstName v s = cond (s .«names_move») (s .body) (v .layout .namelist) + (v .names .«list_end» - v .layout .namelist)
 
-abbrev pub firstSlot : Seen → Sites → ℕ
+abbrev pub firstSlot : Survey → Sites → ℕ
 firstSlot v s = cond (s .«index_moves») (s .names) (v .layout .index) + 32 * v .entries
 
 -- what the arrays need
-pub record Joinable (sheet names bodies which order : List ℕ) (count new : ℕ) (v : Seen) (s : Sites) : Type 0 where
+pub record Joinable (sheet names bodies which order : List ℕ) (count new : ℕ) (v : Survey) (s : Sites) : Type 0 where
   pub few : count ≤ 64
   pub fewNew : new ≤ 64
   pub table : rowAt count ≤ length sheet
@@ -61,11 +60,12 @@ pub record Joinable (sheet names bodies which order : List ℕ) (count new : ℕ
   pub id : (k : ℕ) → k < count → getD order k 0 / 64 < 65536
   pub body : s .body < 1152921504606846976
   pub block : s .names < 1152921504606846976
-  pub layout : (v .layout .namelist ≤ v .end) × (v .end ≤ greatestLength)
+  pub layout : (v .layout .namelist ≤ v .names .«list_end») × (v .names .«list_end» ≤ greatestLength)
   pub index : v .layout .index + 32 * v .entries ≤ greatestLength
 
 -- a plan joined from its parts
-pub record Joined (sheet names bodies which order : List ℕ) (count new : ℕ) (v : Seen) (s : Sites) (h : List ℕ) (b : BodyPlaces) (c : Plan) : Type 0 where
+pub record Joined (sheet names bodies which order : List ℕ) (count new : ℕ) (v : Survey) (s : Sites) (h : List ℕ) (b : BodyPlaces) (c : Plan)
+    : Type 0 where
   pub rows : c .rows ≡ count
   pub fresh : c .fresh ≡ new
   pub heads : c .heads ≡ h

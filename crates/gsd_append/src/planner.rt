@@ -1,5 +1,8 @@
 // The plan of an append: everything is tested and every place and number found before the first store.
+use gsd_bytes::MOST_NAMES;
 use gsd_format::Layout;
+use gsd_names::PLACES;
+use gsd_open::Survey;
 use gsd_open::survey_of;
 use gsd_parts::fill::BodyPlaces;
 use gsd_parts::fill::fill_entries;
@@ -12,31 +15,15 @@ use gsd_parts::sites::Sites;
 use gsd_parts::sites::end_of_use;
 use gsd_parts::sites::find_sites;
 use gsd_parts::sites::heads_for;
-use gsd_runs::Plan;
 use gsd_sheet::sheet_rows;
+use gsd_turns::Plan;
 ghost use mathlib.Core.Path.{_≡_};
 ghost use mathlib.Core.Bool.{cond};
-ghost use Prim.Native.Nat.{_≤_};
-ghost use lib.ListN.{length};
-ghost use lib.Dec.{ltb};
-ghost use Rattle.gsd_format.specs.Opening.{mostNames};
-ghost use Rattle.gsd_format.specs.Refusals.{_⇒_};
-ghost use Rattle.gsd_stores.specs.View.{viewOf};
 ghost use Rattle.gsd_stores.specs.Sheet.{rowCount, sheetTest};
-ghost use Rattle.gsd_stores.specs.Plan.{finalPosition};
-ghost use Rattle.gsd_stores.specs.Append.{planTest, appendTest};
-ghost use Rattle.gsd_open.specs.NameLists.{namesIn, Spans};
+ghost use Rattle.gsd_stores.specs.Append.{imageTest, roomTest, planTest, appendTest};
+ghost use Rattle.gsd_open.specs.Surveys.{Surveyed};
 ghost use Rattle.gsd_sheet.specs.Rows.{Located};
-ghost use Rattle.gsd_append.specs.Planning.{planned, Sees, Asked, Joinable, Joined, Plans};
-
-// What the append sees of an image: its layout, the counts of entries and frames, and the ends of names and chunks.
-pub struct Seen {
-    pub layout: Layout,
-    pub entries: u64,
-    pub frames: u64,
-    pub end: usize,
-    pub chunks: u64,
-}
+ghost use Rattle.gsd_append.specs.Planning.{Sees, Asked, Joinable, Joined, Plans};
 
 // The append's number, and where that is 0 its plan.
 pub struct Planning {
@@ -82,22 +69,23 @@ fn join<'a>(
     order: &[u64; 64],
     count: usize,
     fresh: usize,
-    v: Seen,
+    survey: Survey,
     s: Sites,
     heads: [u64; 66],
     b: BodyPlaces,
 ) -> Plan
-    requires { ⌜ Joinable (now sheet) (now names) (now bodies) (now rows) (now order) count fresh v s ⌝ }
-    ensures { λ r. ⌜ Joined (now (sheet .entry)) (now (names .entry)) (now (bodies .entry)) (now (rows .entry)) (now (order .entry)) count fresh v s heads b r ⌝ }
+    requires joinable { ⌜ Joinable (now sheet) (now names) (now bodies) (now rows) (now order) count fresh survey s ⌝ }
+    ensures { λ r. ⌜ Joined (now (sheet .entry)) (now (names .entry)) (now (bodies .entry)) (now (rows .entry)) (now (order .entry))
+        count fresh survey s heads b r ⌝ }
 {
-    let block = chosen(s.names_move, s.body, v.layout.namelist) as usize;
-    let index = chosen(s.index_moves, s.names, v.layout.index) as usize;
+    let block = chosen(s.names_move, s.body, survey.layout.namelist) as usize;
+    let index = chosen(s.index_moves, s.names, survey.layout.index) as usize;
     let found = place_names(
         names,
         bodies,
         rows,
         fresh,
-        block + (v.end - v.layout.namelist as usize),
+        block + (survey.names.list_end - survey.layout.namelist as usize),
     );
     let body_to = b.to;
     let body_from = *bodies;
@@ -119,8 +107,8 @@ fn join<'a>(
         name_at,
         name_from,
         name_until,
-        slot: index + 32 * v.entries as usize,
-        frame: v.frames,
+        slot: index + 32 * survey.entries as usize,
+        frame: survey.frames,
         n,
         meta,
         location,
@@ -131,32 +119,38 @@ fn join<'a>(
 fn plan_rows<'a>(
     image: &[u8],
     sheet: &[u8],
-    v: Seen,
+    survey: Survey,
     names: &'a [usize; 65],
     bodies: &'a [usize; 64],
     count: usize,
     ids: Ids,
 ) -> Planning
-    requires { ⌜ Sees (now image) v × Asked (now image) (now sheet) (now names) (now bodies) count ids ⌝ }
-    ensures { λ r. ⌜ Plans (now (image .entry)) (now (sheet .entry)) (ltb (viewOf (now (image .entry)) .layout .len) (finalPosition (planned (now (image .entry)) (now (sheet .entry)))) ⇒ 29) r ⌝ }
+    requires sees { ⌜ Sees (now image) survey ⌝ }
+    requires asked { ⌜ Asked (now image) (now sheet) (now names) (now bodies) count ids ⌝ }
+    ensures { λ r. ⌜ Plans (now (image .entry)) (now (sheet .entry)) (roomTest (now (image .entry)) (now (sheet .entry))) r ⌝ }
 {
-    let start = end_of_use(v.layout, v.chunks) as usize;
+    let start = end_of_use(survey.layout, survey.chunks_end) as usize;
     let places = place_bodies(names, bodies, count, start);
     let len = image.len();
     if len < places.end {
         return refused(29);
     }
-    let bytes = v.end - v.layout.namelist as usize + ids.size;
+    let bytes = survey.names.list_end - survey.layout.namelist as usize + ids.size;
     let sites = find_sites(
-        v.layout,
+        survey.layout,
         places.end as u64,
         bytes as u64,
-        v.entries + count as u64,
+        survey.entries + count as u64,
     );
     if (len as u64) < sites.last {
         return refused(29);
     }
-    let heads = heads_for(v.layout, v.entries as usize, v.end, sites);
+    let heads = heads_for(
+        survey.layout,
+        survey.entries as usize,
+        survey.names.list_end,
+        sites,
+    );
     let packed = ids.packed;
     let order = sort(packed, count);
     let plan = join(
@@ -167,7 +161,7 @@ fn plan_rows<'a>(
         &order,
         count,
         ids.fresh,
-        v,
+        survey,
         sites,
         heads,
         places,
@@ -179,58 +173,62 @@ fn plan_rows<'a>(
 fn plan_names<'a>(
     image: &[u8],
     sheet: &[u8],
-    v: Seen,
-    starts: &[u32; 1025],
-    listed: usize,
+    survey: Survey,
+    starts: &[u32; PLACES],
     names: &'a [usize; 65],
     bodies: &'a [usize; 64],
     count: usize,
 ) -> Planning
-    requires { ⌜ Sees (now image) v × Spans (now starts) listed (length (now image)) × (listed ≤ mostNames) × (listed ≡ length (viewOf (now image) .names))
-        × (namesIn (now image) (now starts) listed ≡ viewOf (now image) .names) × (sheetTest (now sheet) ≡ 0) × Located (now sheet) (now names) (now bodies)
-        × (count ≡ rowCount (now sheet)) ⌝ }
+    requires surveyed { ⌜ Surveyed (now image) (now starts) survey ⌝ }
+    requires opens { ⌜ survey .number ≡ 0 ⌝ }
+    requires accepted { ⌜ sheetTest (now sheet) ≡ 0 ⌝ }
+    requires located { ⌜ Located (now sheet) (now names) (now bodies) ⌝ }
+    requires counted { ⌜ count ≡ rowCount (now sheet) ⌝ }
     ensures { λ r. ⌜ Plans (now (image .entry)) (now (sheet .entry)) (planTest (now (image .entry)) (now (sheet .entry))) r ⌝ }
 {
+    let listed = survey.names.count;
     let ids = find_ids(image, starts, listed, sheet, names, bodies, count);
-    if 1024 < listed + ids.fresh {
+    if MOST_NAMES < listed + ids.fresh {
         return refused(28);
     }
-    plan_rows(image, sheet, v, names, bodies, count, ids)
+    plan_rows(image, sheet, survey, names, bodies, count, ids)
+}
+
+// 21: the append's test of an image that opens.
+fn image_number(l: Layout) -> u64
+    ensures { λ r. ⌜ r ≡ imageTest l ⌝ }
+{
+    if l.index % 8 != 0 {
+        return 21;
+    }
+    if l.namelist % 8 != 0 {
+        return 21;
+    }
+    0
 }
 
 // Every test in its order; nothing is stored.
 pub(crate) fn plan_append(image: &[u8], sheet: &[u8]) -> Planning
     ensures { λ r. ⌜ Plans (now (image .entry)) (now (sheet .entry)) (appendTest (now (image .entry)) (now (sheet .entry))) r ⌝ }
 {
-    let mut starts = [0u32; 1025];
-    let s = survey_of(image, &mut starts);
-    if s.number != 0 {
-        return refused(s.number);
+    let mut starts = [0u32; PLACES];
+    let survey = survey_of(image, &mut starts);
+    if survey.number != 0 {
+        return refused(survey.number);
     }
-    let layout = s.layout;
-    if layout.index % 8 != 0 {
-        return refused(21);
-    }
-    if layout.namelist % 8 != 0 {
-        return refused(21);
+    let number = image_number(survey.layout);
+    if number != 0 {
+        return refused(number);
     }
     let rows = sheet_rows(sheet);
     if rows.number != 0 {
         return refused(rows.number);
     }
-    let v = Seen {
-        layout,
-        entries: s.entries,
-        frames: s.frames,
-        end: s.names.end,
-        chunks: s.end,
-    };
     plan_names(
         image,
         sheet,
-        v,
+        survey,
         &starts,
-        s.names.count,
         &rows.names,
         &rows.bodies,
         rows.count,

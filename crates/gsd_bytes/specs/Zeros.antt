@@ -1,4 +1,4 @@
--- The first zero byte of a stretch.
+-- The first zero byte of a stretch, and a stretch without one.
 use Prim.Native.Nat.{ℕ, _≤_, _<_}
 use mathlib.Core.Path.{_≡_}
 use mathlib.Core.List.{List}
@@ -10,3 +10,9 @@ pub record FirstZero (s : List ℕ) (from to r : ℕ) : Type 0 where
   pub within : r ≤ to
   pub before : (k : ℕ) → from ≤ k → k < r → getD s k 0 ≡ 0 → ⊥
   pub here : r < to → getD s r 0 ≡ 0
+
+-- r lies within the stretch, and no byte of it before r is zero
+pub record Clear (s : List ℕ) (from to r : ℕ) : Type 0 where
+  pub above : from ≤ r
+  pub within : r ≤ to
+  pub before : (k : ℕ) → from ≤ k → k < r → getD s k 0 ≡ 0 → ⊥

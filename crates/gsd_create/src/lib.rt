@@ -1,7 +1,19 @@
 // Creates a fresh image at the front of a lent slice: header, an empty index block, an empty name block.
+use gsd_bytes::APPLICATION_PLACE;
 use gsd_bytes::GREATEST_LENGTH;
 use gsd_bytes::HEADER_SIZE;
+use gsd_bytes::INDEX_PLACE;
+use gsd_bytes::NAMELIST_PLACE;
+use gsd_bytes::RESERVED_PLACE;
+use gsd_bytes::SCHEMA_PLACE;
+use gsd_bytes::SCHEMA_VERSION_PLACE;
+use gsd_bytes::SEGMENT_SIZE;
+use gsd_bytes::SEGMENTS_PLACE;
+use gsd_bytes::SLOT_SIZE;
+use gsd_bytes::SLOTS_PLACE;
+use gsd_bytes::TEXT_SIZE;
 use gsd_bytes::VERSION;
+use gsd_bytes::VERSION_PLACE;
 use gsd_bytes::fill_zero;
 use gsd_bytes::has_zero;
 use gsd_bytes::put_half;
@@ -12,7 +24,8 @@ ghost use mathlib.Core.Path.{_≡_};
 ghost use Prim.Native.Nat.{_+_, _≤_};
 ghost use lib.ListN.{length};
 ghost use Rattle.gsd_format.specs.Bytes.{stored};
-ghost use Rattle.gsd_format.specs.Create.{orDefault, badText, filled, freshLength, createTest, fresh, createNumber, created};
+ghost use Rattle.gsd_format.specs.Header.{applicationPlace, textSize};
+ghost use Rattle.gsd_format.specs.Create.{mostUnits, longestText, orDefault, badText, filled, freshLength, createTest, fresh, createNumber, created};
 ghost use Rattle.gsd_create.specs.Numbers.{numbers};
 
 const DEFAULT_SLOTS: u64 = 64;
@@ -20,10 +33,10 @@ const DEFAULT_SLOTS: u64 = 64;
 const DEFAULT_SEGMENTS: u64 = 16;
 
 // Slots, and segments.
-const MOST: u64 = 65536;
+const MOST_UNITS: u64 = 65536;
 
 // Bytes of a text.
-const MOST_TEXT: usize = 63;
+const LONGEST_TEXT: usize = 63;
 
 fn or_default(n: u64, usual: u64) -> u64
     ensures { λ r. ⌜ r ≡ orDefault n usual ⌝ }
@@ -37,7 +50,7 @@ fn or_default(n: u64, usual: u64) -> u64
 fn bad_text(t: &[u8]) -> bool
     ensures { λ r. ⌜ r ≡ badText (now (t .entry)) ⌝ }
 {
-    if MOST_TEXT < t.len() {
+    if LONGEST_TEXT < t.len() {
         return true;
     }
     has_zero(t, 0, t.len())
@@ -49,10 +62,10 @@ fn create_test(len: usize, application: &[u8], schema: &[u8], slots: u64, segmen
     if GREATEST_LENGTH < len {
         return 2;
     }
-    if MOST < slots {
+    if MOST_UNITS < slots {
         return 50;
     }
-    if MOST < segments {
+    if MOST_UNITS < segments {
         return 50;
     }
     if bad_text(application) {
@@ -61,7 +74,7 @@ fn create_test(len: usize, application: &[u8], schema: &[u8], slots: u64, segmen
     if bad_text(schema) {
         return 51;
     }
-    if (len as u64) < HEADER_SIZE + 32 * slots + 64 * segments {
+    if (len as u64) < HEADER_SIZE + SLOT_SIZE * slots + SEGMENT_SIZE * segments {
         return 52;
     }
     0
@@ -69,25 +82,27 @@ fn create_test(len: usize, application: &[u8], schema: &[u8], slots: u64, segmen
 
 // The header up to its texts.
 fn put_numbers(s: &mut [u8], schema_version: u32, slots: u64, segments: u64)
-    requires { ⌜ (48 ≤ length (now s)) × (slots ≤ 65536) ⌝ }
+    requires inside { ⌜ applicationPlace ≤ length (now s) ⌝ }
+    requires slots { ⌜ slots ≤ mostUnits ⌝ }
     ensures { λ _. ⌜ now (s .exit) ≡ stored (now (s .entry)) 0 (numbers «schema_version» slots segments) ⌝ }
 {
     put_magic(s);
-    put_word(s, 8, HEADER_SIZE);
-    put_word(s, 16, slots);
-    put_word(s, 24, HEADER_SIZE + 32 * slots);
-    put_word(s, 32, segments);
-    put_half(s, 40, schema_version as u64);
-    put_half(s, 44, VERSION);
+    put_word(s, INDEX_PLACE, HEADER_SIZE);
+    put_word(s, SLOTS_PLACE, slots);
+    put_word(s, NAMELIST_PLACE, HEADER_SIZE + SLOT_SIZE * slots);
+    put_word(s, SEGMENTS_PLACE, segments);
+    put_half(s, SCHEMA_VERSION_PLACE, schema_version as u64);
+    put_half(s, VERSION_PLACE, VERSION);
 }
 
 // A text of the header in its 64 bytes.
 fn put_filled(s: &mut [u8], at: usize, t: &[u8])
-    requires { ⌜ (at + 64 ≤ length (now s)) × (length (now t) ≤ 63) ⌝ }
+    requires inside { ⌜ at + textSize ≤ length (now s) ⌝ }
+    requires short { ⌜ length (now t) ≤ longestText ⌝ }
     ensures { λ _. ⌜ now (s .exit) ≡ stored (now (s .entry)) at (filled (now (t .entry))) ⌝ }
 {
     put_text(s, at, t);
-    fill_zero(s, at + t.len(), at + 64);
+    fill_zero(s, at + t.len(), at + TEXT_SIZE);
 }
 
 fn lay_out(
@@ -98,17 +113,21 @@ fn lay_out(
     slots: u64,
     segments: u64,
 )
-    requires { ⌜ (length (now application) ≤ 63) × (length (now schema) ≤ 63) ⌝ }
-    requires { ⌜ (slots ≤ 65536) × (segments ≤ 65536) × (freshLength slots segments ≤ length (now image)) ⌝ }
-    ensures { λ _. ⌜ now (image .exit) ≡ fresh (now (image .entry)) (now (application .entry)) (now (schema .entry)) «schema_version» slots segments ⌝ }
+    requires application { ⌜ length (now application) ≤ longestText ⌝ }
+    requires schema { ⌜ length (now schema) ≤ longestText ⌝ }
+    requires slots { ⌜ slots ≤ mostUnits ⌝ }
+    requires segments { ⌜ segments ≤ mostUnits ⌝ }
+    requires fits { ⌜ freshLength slots segments ≤ length (now image) ⌝ }
+    ensures { λ _. ⌜ now (image .exit)
+        ≡ fresh (now (image .entry)) (now (application .entry)) (now (schema .entry)) «schema_version» slots segments ⌝ }
 {
     put_numbers(image, schema_version, slots, segments);
-    put_filled(image, 48, application);
-    put_filled(image, 112, schema);
+    put_filled(image, APPLICATION_PLACE, application);
+    put_filled(image, SCHEMA_PLACE, schema);
     fill_zero(
         image,
-        176,
-        (HEADER_SIZE + 32 * slots + 64 * segments) as usize,
+        RESERVED_PLACE,
+        (HEADER_SIZE + SLOT_SIZE * slots + SEGMENT_SIZE * segments) as usize,
     );
 }
 
@@ -121,8 +140,9 @@ pub fn create(
     slots: u64,
     segments: u64,
 ) -> u64
-    ensures { λ r. ⌜ r ≡ createNumber (now (image .entry)) (now (application .entry)) (now (schema .entry)) slots segments ⌝ }
-    ensures { λ _. ⌜ now (image .exit) ≡ created (now (image .entry)) (now (application .entry)) (now (schema .entry)) «schema_version» slots segments ⌝ }
+    ensures number { λ r. ⌜ r ≡ createNumber (now (image .entry)) (now (application .entry)) (now (schema .entry)) slots segments ⌝ }
+    ensures image { λ _. ⌜ now (image .exit)
+        ≡ created (now (image .entry)) (now (application .entry)) (now (schema .entry)) «schema_version» slots segments ⌝ }
 {
     let m = or_default(slots, DEFAULT_SLOTS);
     let k = or_default(segments, DEFAULT_SEGMENTS);

@@ -11,7 +11,7 @@ use lib.ListN.{length, getD, set, take, drop, length-set, length-append, length-
 use lib.Seq.{getD-set-same, getD-set-other, getD-take, getD-drop, ext-getD, length-take-le, take-suc, take-add, take-at, drop-drop, sets, sets-eq}
 use lib.Dec.{eqb}
 use borrow.Author.Tests.{eq-eqb, ne-eqb, ltb-false, le-ltb}
-use Rattle.gsd_format.specs.Bytes.{le, leBytes, part, same, zeroIn, stored, meets}
+use Rattle.gsd_format.specs.Bytes.{le, leBytes, part, same, zeroIn, stored, meets, Apart}
 
 -- the n bytes of x from a are those of y from b
 abbrev pub Same : List ℕ → ℕ → List ℕ → ℕ → ℕ → Type 0
@@ -24,10 +24,6 @@ Text x at t = (k : ℕ) → k < length t → getD x (at + k) 0 ≡ getD t k 0
 -- every number of the list is a byte
 abbrev pub Octets : List ℕ → Type 0
 Octets s = (i : ℕ) → getD s i 0 < 256
-
--- no byte lies in both stretches
-abbrev pub Apart : ℕ → ℕ → ℕ → ℕ → Type 0
-Apart a n b m = (p : ℕ) → a ≤ p → p < a + n → b ≤ p → p < b + m → ⊥
 
 -- Numbers
 

@@ -11,23 +11,11 @@ use lib.Seq.{getD-take}
 use lib.Dec.{ltb}
 use borrow.Author.Tests.{ltb-false, le-ltb}
 use Rattle.gsd_format.specs.Bytes.{same}
-use Rattle.gsd_format.specs.Names.{indexOf}
+use Rattle.gsd_format.specs.Names.{indexOf, Has, Lacks, Distinct}
 use Rattle.gsd_format.specs.Opening.{twins}
 use Rattle.gsd_format.proofs.Lists.{Each, Any, each-at, at-each, any-at, at-any, each-so, any-back}
 use Rattle.gsd_format.proofs.Bytes.{same-eq, eq-same, ne-same}
 use Rattle.gsd_format.proofs.Refusals.{neither, neither-of}
-
--- b is one of the names, or none of them
-abbrev pub Has : List ℕ → List (List ℕ) → Type 0
-Has b ns = indexOf b ns < length ns
-
-abbrev pub Lacks : List ℕ → List (List ℕ) → Type 0
-Lacks b ns = length ns ≤ indexOf b ns
-
--- no two of the names are equal
-abbrev pub Distinct : List (List ℕ) → Type 0
-Distinct [] = Unit
-Distinct (n ∷ ns) = Lacks n ns × Distinct ns
 
 -- two of the names that are equal
 pub record Twin (ns : List (List ℕ)) : Type 0 where

@@ -2,12 +2,12 @@
 -- its zero, and then the block ends or a zero follows.
 use Prim.Native.Nat.{ℕ, zero, suc, _+_, _*_, _-_, _≤_, _<_}
 use mathlib.Core.Path.{_≡_, refl, sym, _∙_, ap}
-use mathlib.Core.Bool.{true, false, not}
+use mathlib.Core.Bool.{Bool, true, false, not, _&&_}
 use mathlib.Core.List.{List, [], _∷_, _++_, map, map-append, append-assoc, append-nil, append-cancel-left}
 use native.Mathlib.Nat.{zero-add, add-zero, suc-add}
 use native.Mathlib.Decide.{ℕ-discrete, decLt}
 use native.Mathlib.Omega.{arith}
-use lib.ListN.{length, getD, take, length-append}
+use lib.ListN.{length, getD, take, length-append, length-map}
 use lib.Dec.{ltb, eqb}
 use borrow.Author.Tests.{eqb-true, eqb-false, eq-eqb, ne-eqb, ltb-true, lt-ltb, le-ltb, not-true, not-false}
 use borrow.Author.Count.{below-more}
@@ -15,11 +15,12 @@ use Rattle.gsd_format.specs.declared.Layout.{Layout}
 use Rattle.gsd_format.specs.declared.Part.{Part}
 use Rattle.gsd_format.specs.Bytes.{part, zeroIn}
 use Rattle.gsd_format.specs.Header.{layoutOf}
-use Rattle.gsd_format.specs.Names.{partsAt, nameParts, namesOf, bytesOf, flat}
-use Rattle.gsd_format.specs.Opening.{mostNames, unclosed, namesTest}
+use Rattle.gsd_format.specs.Refusals.{_⇒_, _▹_}
+use Rattle.gsd_format.specs.Names.{partsAt, nameParts, namesOf, namesAt, bytesOf, flat, Distinct}
+use Rattle.gsd_format.specs.Opening.{mostNames, unclosed, twins, namesTest}
 use Rattle.gsd_format.proofs.Lists.{Each, each-append, each-so}
 use Rattle.gsd_format.proofs.Refusals.{both, none-of, unmet, passed, both-true, not-less, less-no}
-use Rattle.gsd_format.proofs.Ids.{Distinct, twins-distinct, distinct-twins}
+use Rattle.gsd_format.proofs.Ids.{twins-distinct, distinct-twins}
 use Rattle.gsd_format.proofs.Bytes.{Same, Text, same-tail, same-from, no-zero, part-length, part-at}
 use Rattle.gsd_format.proofs.Texts.{place, byte-inside, text-part, part-text, text-kept}
 use Rattle.gsd_format.proofs.Texts.{text-head, text-tail, text-cons, text-front, text-back, text-append}
@@ -53,10 +54,6 @@ is-holds x at n ns h = record { few = h .few; each = h .each; good = h .good }
 unfoldable pub partsOf : ℕ → List (List ℕ) → List Part
 partsOf at [] = []
 partsOf at (b ∷ ns) = record { start = at; size = length b } ∷ partsOf (at + length b + 1) ns
-
--- the listed names of the n bytes from at
-abbrev pub namesAt : List ℕ → ℕ → ℕ → List (List ℕ)
-namesAt x at n = map (bytesOf x) (partsAt x at at n)
 
 -- Names, and the bytes of a list of them
 
@@ -514,3 +511,43 @@ names-pass x l ns h =
 pub pass-names : (x : List ℕ) (l : Layout) (ns : List (List ℕ)) → unclosed x l ns ≡ false → length ns ≤ mostNames → Distinct ns → namesTest x l ns ≡ 0
 unfolding namesTest
 pass-names x l ns h f d = none-of _ _ (passed _ 9 h) (none-of _ _ (less-no mostNames (length ns) 10 f) (passed _ 11 (distinct-twins ns d)))
+
+-- each number where it is the first
+pub names-open : (x : List ℕ) (l : Layout) (ns : List (List ℕ)) → unclosed x l ns ≡ true → namesTest x l ns ≡ 9
+unfolding namesTest _⇒_ _▹_
+names-open x l ns h = rw h
+
+pub names-many : (x : List ℕ) (l : Layout) (ns : List (List ℕ)) → unclosed x l ns ≡ false → mostNames < length ns → namesTest x l ns ≡ 10
+unfolding namesTest _⇒_ _▹_
+names-many x l ns h f = rw (h, lt-ltb mostNames (length ns) f)
+
+pub names-twins : (x : List ℕ) (l : Layout) (ns : List (List ℕ)) (b : Bool) → unclosed x l ns ≡ false → length ns ≤ mostNames → twins ns ≡ b →
+    namesTest x l ns ≡ (b ⇒ 11)
+unfolding namesTest _⇒_ _▹_
+names-twins x l ns b h f t = rw (h, le-ltb mostNames (length ns) f, t)
+
+-- the test of 9 by the place behind the names
+pub names-behind : (x : List ℕ) (l : Layout) (ns : List (List ℕ)) (end : ℕ) → end ≡ l .namelist + length (flat ns) →
+    (ltb end (l .namelist + 64 * l .segments) && not (eqb (getD x end 0) 0)) ≡ unclosed x l ns
+names-behind x l ns end e =
+    let t : ltb end (l .namelist + 64 * l .segments) ≡ ltb (length (flat ns)) (64 * l .segments) = go (decLt (length (flat ns)) (64 * l .segments)) in
+    λ i. t i && not (eqb (getD x (e i) 0) 0)
+  where
+    go : Dec (length (flat ns) < 64 * l .segments) → ltb end (l .namelist + 64 * l .segments) ≡ ltb (length (flat ns)) (64 * l .segments)
+    go (yes h) = lt-ltb end (l .namelist + 64 * l .segments) (omega arith) ∙ sym (lt-ltb (length (flat ns)) (64 * l .segments) h)
+    go (no h) = le-ltb end (l .namelist + 64 * l .segments) (omega arith) ∙ sym (le-ltb (length (flat ns)) (64 * l .segments) (omega arith))
+
+-- The name list of an image by its parts: who walks the block knows of the list through these laws
+
+pub parts-are : (x : List ℕ) → nameParts x ≡ partsAt x (layoutOf x .namelist) (layoutOf x .namelist) (64 * layoutOf x .segments)
+unfolding nameParts
+parts-are x = refl
+
+-- as many names as places
+pub parts-many : (x : List ℕ) → length (nameParts x) ≡ length (namesOf x)
+unfolding namesOf
+parts-many x = sym (length-map (nameParts x) (bytesOf x))
+
+-- each lies in the block
+pub parts-within : (x : List ℕ) → Each (Lies x (layoutOf x .namelist) (64 * layoutOf x .segments)) (nameParts x)
+parts-within x = rw (parts-are x) (parts-lie x (layoutOf x .namelist) (64 * layoutOf x .segments))

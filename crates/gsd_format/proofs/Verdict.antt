@@ -11,16 +11,16 @@ use borrow.Author.Tests.{ltb-true, ltb-false, leb-true, leb-false, not-false, lt
 use Rattle.gsd_format.specs.declared.Entry.{Entry}
 use Rattle.gsd_format.specs.declared.Layout.{Layout}
 use Rattle.gsd_format.specs.declared.Opening.{Opening}
-use Rattle.gsd_format.specs.Bytes.{le, zeroIn}
+use Rattle.gsd_format.specs.Bytes.{le, zeroIn, Apart}
 use Rattle.gsd_format.specs.Types.{sizeOf, chunkSize}
 use Rattle.gsd_format.specs.Header.{magic, version, headerSize, leastLength, greatestLength, versionOf, layoutOf}
 use Rattle.gsd_format.specs.Names.{namesOf}
 use Rattle.gsd_format.specs.Entries.{entriesOf, key}
-use Rattle.gsd_format.specs.Opening.{headerTest, blocksTest, namesTest, entryTest, entriesTest, verdict, countsOf, opening}
+use Rattle.gsd_format.specs.Opening.{headerTest, blocksTest, Blocks, namesTest, entryTest, entriesTest, verdict, countsOf, opening}
 use Rattle.gsd_format.specs.Lookup.{none}
 use Rattle.gsd_format.proofs.Refusals.{both, none-of, unmet, passed, neither, neither-of, both-true, both-of, not-of}
 use Rattle.gsd_format.proofs.Refusals.{not-less, less-no, no-differ, differ-no}
-use Rattle.gsd_format.proofs.Bytes.{Same, Apart, same-from, le-same, same-eq, eq-same, zeroIn-same, meets-apart, apart-meets}
+use Rattle.gsd_format.proofs.Bytes.{Same, same-from, le-same, same-eq, eq-same, zeroIn-same, meets-apart, apart-meets}
 use Rattle.gsd_format.proofs.Entries.{Ordered, ShortIds}
 
 -- 1 to 5
@@ -59,13 +59,6 @@ header-zero x = (to, from)
         (passed _ _ (neither-of _ _ (not-of _ (f .application)) (not-of _ (f .schema)))))))
 
 -- 6 to 8
-pub record Blocks (l : Layout) : Type 0 where
-  pub indexLow : headerSize ≤ l .index
-  pub indexHigh : l .index + 32 * l .slots ≤ l .len
-  pub namelistLow : headerSize ≤ l .namelist
-  pub namelistHigh : l .namelist + 64 * l .segments ≤ l .len
-  pub apart : Apart (l .index) (32 * l .slots) (l .namelist) (64 * l .segments)
-
 pub blocks-zero : (l : Layout) → blocksTest l ≡ 0 ↔ Blocks l
 unfolding blocksTest
 blocks-zero l = (to, from)

@@ -1,6 +1,6 @@
 -- Bytes in a list: little-endian numbers, parts, comparison, and a store of some bytes in a row.
 -- A byte behind the end of a list reads as 0, so every definition is total on any list.
-use Prim.Native.Nat.{ℕ, zero, suc, _+_, _*_, _-_, _/_, _%_, max, min}
+use Prim.Native.Nat.{ℕ, zero, suc, _+_, _*_, _-_, _/_, _%_, _≤_, _<_, max, min}
 use mathlib.Core.List.{List, [], _∷_}
 use mathlib.Core.Bool.{Bool, true, false}
 use lib.ListN.{getD, set, take, drop, replicate}
@@ -47,3 +47,7 @@ roundUp a n = (n + (a - 1)) / a * a
 -- do the n bytes from a and the m bytes from b have one in common? No byte is in an empty stretch
 abbrev pub meets : ℕ → ℕ → ℕ → ℕ → Bool
 meets a n b m = ltb (max a b) (min (a + n) (b + m))
+
+-- they don't: no byte lies in both
+abbrev pub Apart : ℕ → ℕ → ℕ → ℕ → Type 0
+Apart a n b m = (p : ℕ) → a ≤ p → p < a + n → b ≤ p → p < b + m → ⊥

@@ -9,6 +9,7 @@ use Rattle.gsd_format.specs.declared.Opening.{Opening}
 use Rattle.gsd_format.specs.Bytes.{le, leBytes, part, zeroIn, zeros}
 use Rattle.gsd_format.specs.Refusals.{_⇒_, _▹_}
 use Rattle.gsd_format.specs.Header.{magic, version, headerSize, greatestLength, versionOf, layoutOf}
+use Rattle.gsd_format.specs.Header.{schemaVersionPlace, applicationPlace, schemaPlace, textSize, reservedPlace, reservedSize, slotSize, segmentSize}
 use Rattle.gsd_format.specs.Opening.{opening}
 
 -- how many slots and segments 0 stands for, each by itself
@@ -18,25 +19,32 @@ defaultSlots = 64
 abbrev pub defaultSegments : ℕ
 defaultSegments = 16
 
+-- and the most that may be asked of either
+abbrev pub mostUnits : ℕ
+mostUnits = 65536
+
 unfoldable pub orDefault : ℕ → ℕ → ℕ
 orDefault zero default = default
 orDefault (suc n) default = suc n
 
 -- the length of a fresh image with so many slots and segments
 abbrev pub freshLength : ℕ → ℕ → ℕ
-freshLength slots segments = headerSize + 32 * slots + 64 * segments
+freshLength slots segments = headerSize + slotSize * slots + segmentSize * segments
 
--- a text for the header: at most 63 bytes, none of them zero, then filled up with zeros
+-- a text for the header: room for a zero is left, it holds none itself, and is filled up with zeros
+abbrev pub longestText : ℕ
+longestText = 63
+
 abbrev pub badText : List ℕ → Bool
-badText t = ltb 63 (length t) || zeroIn t 0 (length t)
+badText t = ltb longestText (length t) || zeroIn t 0 (length t)
 
 abbrev pub filled : List ℕ → List ℕ
-filled t = t ++ zeros (64 - length t)
+filled t = t ++ zeros (textSize - length t)
 
 unfoldable pub createTest : ℕ → List ℕ → List ℕ → ℕ → ℕ → ℕ
 createTest len application schema slots segments =
     (ltb greatestLength len ⇒ 2)
-    ▹ (ltb 65536 slots || ltb 65536 segments ⇒ 50)
+    ▹ (ltb mostUnits slots || ltb mostUnits segments ⇒ 50)
     ▹ (badText application || badText schema ⇒ 51)
     ▹ (ltb len (freshLength slots segments) ⇒ 52)
 
@@ -44,16 +52,16 @@ unfoldable pub freshHeader : List ℕ → List ℕ → ℕ → ℕ → ℕ → L
 freshHeader application schema schemaVersion slots segments =
     magic
     ++ leBytes 8 headerSize ++ leBytes 8 slots
-    ++ leBytes 8 (headerSize + 32 * slots) ++ leBytes 8 segments
+    ++ leBytes 8 (headerSize + slotSize * slots) ++ leBytes 8 segments
     ++ leBytes 4 schemaVersion ++ leBytes 4 version
     ++ filled application ++ filled schema
-    ++ zeros 80
+    ++ zeros reservedSize
 
 -- the slice with a fresh image at its front; bytes behind the blocks stay
 unfoldable pub fresh : List ℕ → List ℕ → List ℕ → ℕ → ℕ → ℕ → List ℕ
 fresh slice application schema schemaVersion slots segments =
     freshHeader application schema schemaVersion slots segments
-    ++ zeros (32 * slots + 64 * segments)
+    ++ zeros (slotSize * slots + segmentSize * segments)
     ++ drop (freshLength slots segments) slice
 
 -- create's number, and the slice afterwards: a refusal changes nothing
@@ -72,11 +80,11 @@ created slice application schema schemaVersion slots segments =
 -- is as it was. Its layout says that its length is the slice's
 pub record Fresh (slice application schema : List ℕ) (schemaVersion slots segments : ℕ) (img : List ℕ) : Type 0 where
   pub opens : opening img ≡ Opening.Open (record { frames = 0; names = 0; entries = 0 })
-  pub layout : layoutOf img ≡ record { len = length slice; index = headerSize; slots = slots; namelist = headerSize + 32 * slots; segments = segments }
+  pub layout : layoutOf img ≡ record { len = length slice; index = headerSize; slots = slots; namelist = headerSize + slotSize * slots; segments = segments }
   pub fileVersion : versionOf img ≡ version
-  pub sameVersion : le 4 img 40 ≡ schemaVersion
-  pub sameApplication : part img 48 64 ≡ filled application
-  pub sameSchema : part img 112 64 ≡ filled schema
-  pub reserved : part img 176 80 ≡ zeros 80
-  pub blocks : part img headerSize (32 * slots + 64 * segments) ≡ zeros (32 * slots + 64 * segments)
+  pub sameVersion : le 4 img schemaVersionPlace ≡ schemaVersion
+  pub sameApplication : part img applicationPlace textSize ≡ filled application
+  pub sameSchema : part img schemaPlace textSize ≡ filled schema
+  pub reserved : part img reservedPlace reservedSize ≡ zeros reservedSize
+  pub blocks : part img headerSize (slotSize * slots + segmentSize * segments) ≡ zeros (slotSize * slots + segmentSize * segments)
   pub behind : drop (freshLength slots segments) img ≡ drop (freshLength slots segments) slice

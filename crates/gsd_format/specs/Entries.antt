@@ -8,30 +8,53 @@ use lib.Dec.{eqb}
 use Rattle.gsd_format.specs.declared.Entry.{Entry}
 use Rattle.gsd_format.specs.Bytes.{le}
 use Rattle.gsd_format.specs.Types.{chunkSize}
-use Rattle.gsd_format.specs.Header.{layoutOf}
+use Rattle.gsd_format.specs.Header.{slotSize, layoutOf}
+
+-- places in a slot, behind the frame
+abbrev pub nPlace : ℕ
+nPlace = 8
+
+abbrev pub locationPlace : ℕ
+locationPlace = 16
+
+abbrev pub mPlace : ℕ
+mPlace = 24
+
+abbrev pub idPlace : ℕ
+idPlace = 28
+
+abbrev pub kindPlace : ℕ
+kindPlace = 30
+
+abbrev pub flagsPlace : ℕ
+flagsPlace = 31
 
 unfoldable pub entryAt : List ℕ → ℕ → Entry
 entryAt img at = record {
   frame = le 8 img at;
-  n = le 8 img (at + 8);
-  location = le 8 img (at + 16);
-  m = le 4 img (at + 24);
-  id = le 2 img (at + 28);
-  kind = getD img (at + 30) 0;
-  flags = getD img (at + 31) 0;
+  n = le 8 img (at + nPlace);
+  location = le 8 img (at + locationPlace);
+  m = le 4 img (at + mPlace);
+  id = le 2 img (at + idPlace);
+  kind = getD img (at + kindPlace) 0;
+  flags = getD img (at + flagsPlace) 0;
 }
 
 -- the listed entries among the n slots from at
 unfoldable pub entriesAt : List ℕ → ℕ → ℕ → List Entry
 entriesAt img at zero = []
-entriesAt img at (suc n) = elim (eqb (le 8 img (at + 16)) 0) [ true ↦ [] | false ↦ entryAt img at ∷ entriesAt img (at + 32) n ]
+entriesAt img at (suc n) = elim (eqb (le 8 img (at + locationPlace)) 0) [ true ↦ [] | false ↦ entryAt img at ∷ entriesAt img (at + slotSize) n ]
 
 unfoldable pub entriesOf : List ℕ → List Entry
 entriesOf img = entriesAt img (layoutOf img .index) (layoutOf img .slots)
 
--- (frame, id) in its order, as one number: an id is below 65,536
+-- an id has 16 bits: it is below this
+abbrev pub idRange : ℕ
+idRange = 65536
+
+-- (frame, id) in its order, as one number
 abbrev pub key : Entry → ℕ
-key e = 65536 * e .frame + e .id
+key e = idRange * e .frame + e .id
 
 -- the last entry's frame plus 1, or top with no entries
 unfoldable pub framesFrom : ℕ → List Entry → ℕ

@@ -23,9 +23,57 @@ leastLength = headerSize
 abbrev pub greatestLength : ℕ
 greatestLength = 1073741824
 
--- the index block: slots of 32 bytes; the name block: segments of 64 bytes
+-- places in the header: the four numbers of the two blocks, the schema's version and the file's, application and schema,
+-- and the reserved bytes
+abbrev pub indexPlace : ℕ
+indexPlace = 8
+
+abbrev pub slotsPlace : ℕ
+slotsPlace = 16
+
+abbrev pub namelistPlace : ℕ
+namelistPlace = 24
+
+abbrev pub segmentsPlace : ℕ
+segmentsPlace = 32
+
+abbrev pub schemaVersionPlace : ℕ
+schemaVersionPlace = 40
+
+abbrev pub versionPlace : ℕ
+versionPlace = 44
+
+abbrev pub applicationPlace : ℕ
+applicationPlace = 48
+
+abbrev pub schemaPlace : ℕ
+schemaPlace = 112
+
+abbrev pub reservedPlace : ℕ
+reservedPlace = 176
+
+abbrev pub reservedSize : ℕ
+reservedSize = 80
+
+-- the bytes of application and of schema, each with a zero
+abbrev pub textSize : ℕ
+textSize = 64
+
+-- the bytes of a slot of the index block, and of a segment of the name block
+abbrev pub slotSize : ℕ
+slotSize = 32
+
+abbrev pub segmentSize : ℕ
+segmentSize = 64
+
 unfoldable pub layoutOf : List ℕ → Layout
-layoutOf img = record { len = length img; index = le 8 img 8; slots = le 8 img 16; namelist = le 8 img 24; segments = le 8 img 32 }
+layoutOf img = record {
+  len = length img;
+  index = le 8 img indexPlace;
+  slots = le 8 img slotsPlace;
+  namelist = le 8 img namelistPlace;
+  segments = le 8 img segmentsPlace;
+}
 
 abbrev pub versionOf : List ℕ → ℕ
-versionOf img = le 4 img 44
+versionOf img = le 4 img versionPlace

@@ -1,13 +1,13 @@
 -- The name list: names follow one another from the start of the name block, each closed by a zero byte.
 -- It ends at the first name that would start with zero, or at the end of the block. The n-th name has id n.
-use Prim.Native.Nat.{ℕ, zero, suc, _+_, _*_, _-_}
+use Prim.Native.Nat.{ℕ, zero, suc, _+_, _*_, _-_, _≤_, _<_}
 use mathlib.Core.List.{List, [], _∷_, _++_, map}
 use mathlib.Core.Bool.{true, false}
-use lib.ListN.{getD}
+use lib.ListN.{getD, length}
 use lib.Dec.{eqb}
 use Rattle.gsd_format.specs.declared.Part.{Part}
 use Rattle.gsd_format.specs.Bytes.{part, same}
-use Rattle.gsd_format.specs.Header.{layoutOf}
+use Rattle.gsd_format.specs.Header.{segmentSize, layoutOf}
 
 -- the closed names among the n bytes from at, where the name at hand began at start
 unfoldable pub partsAt : List ℕ → ℕ → ℕ → ℕ → List Part
@@ -19,13 +19,17 @@ partsAt img start at (suc n) = elim (eqb (getD img at 0) 0) [
 
 -- where the listed names lie, each without its zero
 unfoldable pub nameParts : List ℕ → List Part
-nameParts img = partsAt img (layoutOf img .namelist) (layoutOf img .namelist) (64 * layoutOf img .segments)
+nameParts img = partsAt img (layoutOf img .namelist) (layoutOf img .namelist) (segmentSize * layoutOf img .segments)
 
 abbrev pub bytesOf : List ℕ → Part → List ℕ
 bytesOf img p = part img (p .start) (p .size)
 
 unfoldable pub namesOf : List ℕ → List (List ℕ)
 namesOf img = map (bytesOf img) (nameParts img)
+
+-- the closed names among the n bytes from at
+abbrev pub namesAt : List ℕ → ℕ → ℕ → List (List ℕ)
+namesAt img at n = map (bytesOf img) (partsAt img at at n)
 
 -- the bytes of a name list: each name and its zero
 unfoldable pub flat : List (List ℕ) → List ℕ
@@ -36,3 +40,15 @@ flat (n ∷ ns) = n ++ 0 ∷ flat ns
 unfoldable pub indexOf : List ℕ → List (List ℕ) → ℕ
 indexOf b [] = 0
 indexOf b (n ∷ ns) = elim (same b n) [ true ↦ 0 | false ↦ suc (indexOf b ns) ]
+
+-- b is one of the names, or none of them
+abbrev pub Has : List ℕ → List (List ℕ) → Type 0
+Has b ns = indexOf b ns < length ns
+
+abbrev pub Lacks : List ℕ → List (List ℕ) → Type 0
+Lacks b ns = length ns ≤ indexOf b ns
+
+-- no two of the names are equal
+abbrev pub Distinct : List (List ℕ) → Type 0
+Distinct [] = Unit
+Distinct (n ∷ ns) = Lacks n ns × Distinct ns

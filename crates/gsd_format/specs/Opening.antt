@@ -1,5 +1,5 @@
 -- Opening: the tests of numbers 1 to 17 in their order, and the counts answered where none applies.
-use Prim.Native.Nat.{ℕ, zero, suc, _+_, _*_, _^_}
+use Prim.Native.Nat.{ℕ, zero, suc, _+_, _*_, _^_, _≤_}
 use mathlib.Core.List.{List, [], _∷_}
 use mathlib.Core.Bool.{Bool, false, not, _&&_, _||_}
 use lib.ListN.{getD, length, take}
@@ -8,10 +8,11 @@ use Rattle.gsd_format.specs.declared.Entry.{Entry}
 use Rattle.gsd_format.specs.declared.Layout.{Layout}
 use Rattle.gsd_format.specs.declared.Counts.{Counts}
 use Rattle.gsd_format.specs.declared.Opening.{Opening}
-use Rattle.gsd_format.specs.Bytes.{same, zeroIn, meets}
+use Rattle.gsd_format.specs.Bytes.{same, zeroIn, meets, Apart}
 use Rattle.gsd_format.specs.Refusals.{_⇒_, _▹_}
 use Rattle.gsd_format.specs.Types.{known, chunkSize}
 use Rattle.gsd_format.specs.Header.{magic, version, headerSize, leastLength, greatestLength, versionOf, layoutOf}
+use Rattle.gsd_format.specs.Header.{applicationPlace, schemaPlace, textSize, slotSize, segmentSize}
 use Rattle.gsd_format.specs.Names.{namesOf, flat, indexOf}
 use Rattle.gsd_format.specs.Entries.{entriesOf, key, framesOf}
 
@@ -22,14 +23,22 @@ headerTest img =
     ▹ (ltb greatestLength (length img) ⇒ 2)
     ▹ (not (same (take 8 img) magic) ⇒ 3)
     ▹ (not (eqb (versionOf img) version) ⇒ 4)
-    ▹ (not (zeroIn img 48 64) || not (zeroIn img 112 64) ⇒ 5)
+    ▹ (not (zeroIn img applicationPlace textSize) || not (zeroIn img schemaPlace textSize) ⇒ 5)
 
 -- 6 to 8: each block lies between the header and the slice's end, and the two share no byte
 unfoldable pub blocksTest : Layout → ℕ
 blocksTest l =
-    (ltb (l .index) headerSize || ltb (l .len) (l .index + 32 * l .slots) ⇒ 6)
-    ▹ (ltb (l .namelist) headerSize || ltb (l .len) (l .namelist + 64 * l .segments) ⇒ 7)
-    ▹ (meets (l .index) (32 * l .slots) (l .namelist) (64 * l .segments) ⇒ 8)
+    (ltb (l .index) headerSize || ltb (l .len) (l .index + slotSize * l .slots) ⇒ 6)
+    ▹ (ltb (l .namelist) headerSize || ltb (l .len) (l .namelist + segmentSize * l .segments) ⇒ 7)
+    ▹ (meets (l .index) (slotSize * l .slots) (l .namelist) (segmentSize * l .segments) ⇒ 8)
+
+-- what these three say of blocks that none of them refuses
+pub record Blocks (l : Layout) : Type 0 where
+  pub indexLow : headerSize ≤ l .index
+  pub indexHigh : l .index + slotSize * l .slots ≤ l .len
+  pub namelistLow : headerSize ≤ l .namelist
+  pub namelistHigh : l .namelist + segmentSize * l .segments ≤ l .len
+  pub apart : Apart (l .index) (slotSize * l .slots) (l .namelist) (segmentSize * l .segments)
 
 -- the greatest number of names
 abbrev pub mostNames : ℕ
@@ -37,7 +46,7 @@ mostNames = 1024
 
 -- does the block go on with a name that has no zero byte before the block ends?
 abbrev pub unclosed : List ℕ → Layout → List (List ℕ) → Bool
-unclosed img l names = ltb (length (flat names)) (64 * l .segments) && not (eqb (getD img (l .namelist + length (flat names)) 0) 0)
+unclosed img l names = ltb (length (flat names)) (segmentSize * l .segments) && not (eqb (getD img (l .namelist + length (flat names)) 0) 0)
 
 -- are two of the names equal?
 unfoldable pub twins : List (List ℕ) → Bool
@@ -52,15 +61,20 @@ namesTest img l names = (unclosed img l names ⇒ 9) ▹ (ltb mostNames (length 
 abbrev pub follows : ℕ → ℕ → Entry → Bool
 follows least top e = leb least (key e) && leb (e .frame) top
 
--- 12 to 17 for one entry, with so many names. A location from 2^63 on is negative
+-- a location from here on is negative: it is a signed number of 64 bits
+abbrev pub negative : ℕ
+negative = 2 ^ 63
+
+-- 12 to 17 for one entry, with so many names
 unfoldable pub entryTest : Layout → ℕ → ℕ → ℕ → Entry → ℕ
 entryTest l names least top e =
-    (ltb (e .location) headerSize || leb (2 ^ 63) (e .location) ⇒ 12)
+    (ltb (e .location) headerSize || leb negative (e .location) ⇒ 12)
     ▹ (not (known (e .kind)) ⇒ 13)
     ▹ (leb names (e .id) ⇒ 14)
     ▹ (not (follows least top e) ⇒ 15)
     ▹ (ltb (l .len) (e .location + chunkSize e) ⇒ 16)
-    ▹ (meets (e .location) (chunkSize e) (l .index) (32 * l .slots) || meets (e .location) (chunkSize e) (l .namelist) (64 * l .segments) ⇒ 17)
+    ▹ (meets (e .location) (chunkSize e) (l .index) (slotSize * l .slots)
+    || meets (e .location) (chunkSize e) (l .namelist) (segmentSize * l .segments) ⇒ 17)
 
 -- entry by entry: the first bad one decides
 unfoldable pub entriesTest : Layout → ℕ → ℕ → ℕ → List Entry → ℕ

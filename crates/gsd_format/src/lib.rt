@@ -28,6 +28,7 @@ pub struct Part {
     pub size: usize,
 }
 
+// What an image holds.
 pub struct Counts {
     pub frames: u64,
     pub names: u64,

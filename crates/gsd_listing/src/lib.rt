@@ -1,5 +1,7 @@
 // The listing as one text: what is printed for an input. The image is opened once.
+use gsd_bytes::SLOT_SIZE;
 use gsd_bytes::put_text;
+use gsd_names::PLACES;
 use gsd_open::entry_at;
 use gsd_open::survey_of;
 use gsd_text::Line;
@@ -17,8 +19,10 @@ ghost use Rattle.gsd_format.specs.Listing.{entryLines, longestInput, listing, p
 
 // The line goes behind the first `at` bytes.
 fn put_line(out: &mut [u8], at: usize, line: Line) -> usize
-    requires { ⌜ (line .size ≤ 128) × (at + 128 ≤ length (now out)) ⌝ }
-    ensures { λ r. ⌜ (take r (now (out .exit)) ≡ take at (now (out .entry)) ++ take (line .size) (line .bytes)) × (r ≤ at + 128) ⌝ }
+    requires line { ⌜ line .size ≤ 128 ⌝ }
+    requires room { ⌜ at + 128 ≤ length (now out) ⌝ }
+    ensures line { λ r. ⌜ take r (now (out .exit)) ≡ take at (now (out .entry)) ++ take (line .size) (line .bytes) ⌝ }
+    ensures bound { λ r. ⌜ r ≤ at + 128 ⌝ }
 {
     let size = line.size;
     let bytes = line.bytes;
@@ -28,14 +32,17 @@ fn put_line(out: &mut [u8], at: usize, line: Line) -> usize
 
 // A line for each entry, count of them in the block at index.
 fn put_entries(image: &[u8], index: u64, count: u64, out: &mut [u8], at: usize) -> usize
-    requires { ⌜ (verdict (now image) ≡ 0) × (index ≡ layoutOf (now image) .index) × (count ≡ length (entriesOf (now image))) ⌝ }
+    requires opens { ⌜ verdict (now image) ≡ 0 ⌝ }
+    requires index { ⌜ index ≡ layoutOf (now image) .index ⌝ }
+    requires counted { ⌜ count ≡ length (entriesOf (now image)) ⌝ }
     requires { ⌜ at + 128 * count ≤ length (now out) ⌝ }
-    ensures { λ r. ⌜ (take r (now (out .exit)) ≡ take at (now (out .entry)) ++ entryLines (entriesOf (now (image .entry)))) × (r ≤ at + 128 * count) ⌝ }
+    ensures text { λ r. ⌜ take r (now (out .exit)) ≡ take at (now (out .entry)) ++ entryLines (entriesOf (now (image .entry))) ⌝ }
+    ensures bound { λ r. ⌜ r ≤ at + 128 * count ⌝ }
 {
     let mut to = at;
     let mut i = 0;
     while i < count {
-        let e = entry_at(image, (index + 32 * i) as usize);
+        let e = entry_at(image, (index + SLOT_SIZE * i) as usize);
         to = put_line(out, to, entry_line(e));
         i += 1;
     }
@@ -43,10 +50,12 @@ fn put_entries(image: &[u8], index: u64, count: u64, out: &mut [u8], at: usize) 
 }
 
 fn put_listing(image: &[u8], out: &mut [u8]) -> usize
-    requires { ⌜ (length (now image) ≤ longestInput) × (262144 ≤ length (now out)) ⌝ }
-    ensures { λ r. ⌜ (take r (now (out .exit)) ≡ listing (now (image .entry))) × (r ≤ 262144) ⌝ }
+    requires short { ⌜ length (now image) ≤ longestInput ⌝ }
+    requires room { ⌜ 262144 ≤ length (now out) ⌝ }
+    ensures text { λ r. ⌜ take r (now (out .exit)) ≡ listing (now (image .entry)) ⌝ }
+    ensures bound { λ r. ⌜ r ≤ 262144 ⌝ }
 {
-    let mut starts = [0u32; 1025];
+    let mut starts = [0u32; PLACES];
     let s = survey_of(image, &mut starts);
     if s.number != 0 {
         return put_line(out, 0, refused_line(s.number));
@@ -62,7 +71,8 @@ fn put_listing(image: &[u8], out: &mut [u8]) -> usize
 // The text fits: an input of 65,536 bytes has at most 2,040 entries, and a line has at most 128 bytes. What stands
 // behind the text is free.
 pub fn print_into(input: &[u8], out: &mut [u8; 262144]) -> usize
-    ensures { λ r. ⌜ (take r (now (out .exit)) ≡ printed (now (input .entry))) × (r ≤ length (now (out .exit))) ⌝ }
+    ensures text { λ r. ⌜ take r (now (out .exit)) ≡ printed (now (input .entry)) ⌝ }
+    ensures bound { λ r. ⌜ r ≤ length (now (out .exit)) ⌝ }
 {
     if 65536 < input.len() {
         put_text(out, 0, b"too long\n");

@@ -84,17 +84,17 @@ fields-place names least top e h = leb-false (2 ^ 63) (e .location) (neither (lt
 
 pub walk-ends : (l : Layout) (names : ℕ) (all : List Entry) (least top end many : ℕ) (rest : List Entry) (number : ℕ) →
     Walked l names all least top end many rest → rest ≡ [] → number ≡ 0 →
-    Walks l names all (record { number = number; entries = many; frames = top; end = end })
+    Walks l names all (record { number = number; entries = many; frames = top; «chunks_end» = end })
 walk-ends l names all least top end many rest number w z p =
     let a = walked-all l names all least top end many rest w z in
-    record { number = p ∙ sym (a .0); entries = λ _. sym (a .1); frames = λ _. sym (a .2); end = λ _. sym (a .3) }
+    record { number = p ∙ sym (a .0); entries = λ _. sym (a .1); frames = λ _. sym (a .2); chunks = λ _. sym (a .3) }
 
 pub walk-refuses : (l : Layout) (names : ℕ) (all : List Entry) (least top end many : ℕ) (rest : List Entry) (e : Entry) (es : List Entry) (number : ℕ) →
     Walked l names all least top end many rest → rest ≡ e ∷ es → number ≡ entryTest l names least top e → (number ≡ 0 → ⊥) →
-    Walks l names all (record { number = number; entries = many; frames = top; end = end })
+    Walks l names all (record { number = number; entries = many; frames = top; «chunks_end» = end })
 walk-refuses l names all least top end many rest e es number w q p n = record {
   number = p ∙ sym (walked-bad l names all least top end many rest e es w q (λ z. n (p ∙ z)));
   entries = λ z. absurd (n z);
   frames = λ z. absurd (n z);
-  end = λ z. absurd (n z);
+  chunks = λ z. absurd (n z);
 }

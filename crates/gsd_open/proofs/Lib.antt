@@ -1,5 +1,4 @@
 -- Laws that the proofs of opening share, and of the survey for those that answer from it.
 pub mod Blocks
 pub mod EntryTests
-pub mod NameLists
 pub mod Surveys

@@ -3,25 +3,25 @@ use Prim.Native.Nat.{ℕ, zero, suc, _+_, _*_, _≤_, _<_}
 use mathlib.Core.Path.{_≡_, refl, sym, _∙_, ap}
 use mathlib.Core.List.{List}
 use native.Mathlib.Omega.{arith}
-use lib.ListN.{length, getD, length-map}
+use lib.ListN.{length, getD}
 use Rattle.gsd_format.specs.declared.Layout.{Layout}
 use Rattle.gsd_format.specs.Header.{greatestLength, layoutOf}
-use Rattle.gsd_format.specs.Names.{nameParts, bytesOf, namesOf}
+use Rattle.gsd_format.specs.Names.{nameParts, namesOf, namesAt}
 use Rattle.gsd_format.specs.Entries.{entryAt, entriesAt, entriesOf, framesOf, chunksEnd}
 use Rattle.gsd_format.specs.Refusals.{_▹_}
-use Rattle.gsd_format.specs.Opening.{headerTest, blocksTest, mostNames, namesTest, entriesTest, verdict}
+use Rattle.gsd_format.specs.Opening.{headerTest, blocksTest, mostNames, namesTest, entriesTest, verdict, Blocks}
 use Rattle.gsd_format.specs.Lookup.{none, nowhere}
 use Rattle.gsd_format.proofs.Refusals.{first-of, stays}
-use Rattle.gsd_format.proofs.Names.{namesAt, names-of, names-pass}
+use Rattle.gsd_format.proofs.Names.{names-of, names-pass, parts-are, parts-many}
 use Rattle.gsd_format.proofs.Entries.{image-entries}
-use Rattle.gsd_format.proofs.Verdict.{Blocks, header-zero, blocks-zero, verdict-zero}
+use Rattle.gsd_format.proofs.Verdict.{header-zero, blocks-zero, verdict-zero}
+use Rattle.gsd_names.specs.declared.list.NameList.{NameList}
+use Rattle.gsd_names.specs.NameLists.{partAt, namesIn, Spans, NamesFound}
+use Rattle.gsd_names.proofs.NameLists.{found-count, found-names, found-part}
 use Rattle.gsd_open.specs.declared.index.Walk.{Walk}
-use Rattle.gsd_open.specs.declared.names.NameList.{NameList}
 use Rattle.gsd_open.specs.declared.survey.Survey.{Survey}
 use Rattle.gsd_open.specs.Index.{Walks}
-use Rattle.gsd_open.specs.NameLists.{partAt, namesIn, Spans, NamesFound}
 use Rattle.gsd_open.specs.Surveys.{Laid, Surveyed}
-use Rattle.gsd_open.proofs.NameLists.{found-count, found-names, found-part}
 
 -- a refusal says no more than its number
 refused : (img starts : List ℕ) (r : Survey) → r .number ≡ verdict img → (r .number ≡ 0 → ⊥) → Surveyed img starts r
@@ -31,7 +31,7 @@ refused img starts r e n = record {
   names = λ z. absurd (n z);
   entries = λ z. absurd (n z);
   frames = λ z. absurd (n z);
-  end = λ z. absurd (n z);
+  chunks = λ z. absurd (n z);
 }
 
 -- the verdict is the number of the first part that refuses
@@ -79,7 +79,7 @@ module _ (img : List ℕ) (l : Layout) (laid : Laid img l) where
   -- where no part refuses, the answer is what the walk says
   pub walked : (starts : List ℕ) (list : NameList) (w : Walk) → namesTest img l block ≡ 0 → NamesFound img (l .namelist) (64 * l .segments) starts list →
       Walks l (list .count) (entriesAt img (l .index) (l .slots)) w →
-      Surveyed img starts (record { number = w .number; layout = l; names = list; entries = w .entries; frames = w .frames; end = w .end })
+      Surveyed img starts (record { number = w .number; layout = l; names = list; entries = w .entries; frames = w .frames; «chunks_end» = w .«chunks_end» })
   unfolding entriesOf
   walked starts list w good found walks =
       let es : entriesAt img (l .index) (l .slots) ≡ entriesOf img = λ i. entriesAt img (laid .layout i .index) (laid .layout i .slots) in
@@ -91,7 +91,7 @@ module _ (img : List ℕ) (l : Layout) (laid : Laid img l) where
         names = λ _. rw (laid .layout) at found;
         entries = λ z. walks .entries z ∙ ap length es;
         frames = λ z. walks .frames z ∙ ap framesOf es;
-        end = λ z. walks .end z ∙ ap chunksEnd es;
+        chunks = λ z. walks .chunks z ∙ ap chunksEnd es;
       }
 
 -- the slots of the listed entries
@@ -124,12 +124,10 @@ module _ (img starts : List ℕ) (s : Survey) (told : Surveyed img starts s) (go
   listed = told .names good
 
   pub many-parts : s .names .count ≡ length (nameParts img)
-  unfolding nameParts
-  many-parts = listed .count
+  many-parts = listed .count ∙ ap length (sym (parts-are img))
 
   pub many-names : s .names .count ≡ length (namesOf img)
-  unfolding namesOf
-  many-names = many-parts ∙ sym (length-map (nameParts img) (bytesOf img))
+  many-names = many-parts ∙ parts-many img
 
   pub few-names : s .names .count ≤ mostNames
   few-names = omega (arith, many-names, names-pass img (layoutOf img) (namesOf img) (verdict-zero img .0 opens .names) .1)
@@ -141,8 +139,7 @@ module _ (img starts : List ℕ) (s : Survey) (told : Surveyed img starts s) (go
   kept-names = found-names img _ _ starts (s .names) listed few-names ∙ sym (names-of img)
 
   pub kept-part : (n : ℕ) → n < s .names .count → getD (nameParts img) n nowhere ≡ partAt starts n
-  unfolding nameParts
-  kept-part n h = found-part img _ _ starts (s .names) listed few-names n h
+  kept-part n h = ap (λ ps. getD ps n nowhere) (parts-are img) ∙ found-part img _ _ starts (s .names) listed few-names n h
 
   -- the slots of its entries
   pub index-there : s .layout .index ≡ layoutOf img .index

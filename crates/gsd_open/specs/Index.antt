@@ -40,4 +40,4 @@ pub record Walks (l : Layout) (names : ℕ) (es : List Entry) (r : Walk) : Type 
   pub number : r .number ≡ entriesTest l names 0 0 es
   pub entries : r .number ≡ 0 → r .entries ≡ length es
   pub frames : r .number ≡ 0 → r .frames ≡ framesOf es
-  pub end : r .number ≡ 0 → r .end ≡ chunksEnd es
+  pub chunks : r .number ≡ 0 → r .«chunks_end» ≡ chunksEnd es

@@ -1,4 +1,3 @@
 -- What the functions of opening answer on the way to the survey, and what the survey says.
 pub mod Index
-pub mod NameLists
 pub mod Surveys

@@ -7,7 +7,7 @@ use Rattle.gsd_format.specs.declared.Layout.{Layout}
 use Rattle.gsd_format.specs.Header.{layoutOf}
 use Rattle.gsd_format.specs.Entries.{entriesOf, framesOf, chunksEnd}
 use Rattle.gsd_format.specs.Opening.{headerTest, blocksTest, verdict}
-use Rattle.gsd_open.specs.NameLists.{NamesFound}
+use Rattle.gsd_names.specs.NameLists.{NamesFound}
 use Rattle.gsd_open.specs.declared.survey.Survey.{Survey}
 
 -- header and blocks are good, and l says where the blocks lie
@@ -23,4 +23,4 @@ pub record Surveyed (img starts : List ℕ) (r : Survey) : Type 0 where
   pub names : r .number ≡ 0 → NamesFound img (layoutOf img .namelist) (64 * layoutOf img .segments) starts (r .names)
   pub entries : r .number ≡ 0 → r .entries ≡ length (entriesOf img)
   pub frames : r .number ≡ 0 → r .frames ≡ framesOf (entriesOf img)
-  pub end : r .number ≡ 0 → r .end ≡ chunksEnd (entriesOf img)
+  pub chunks : r .number ≡ 0 → r .«chunks_end» ≡ chunksEnd (entriesOf img)

@@ -1,6 +1,19 @@
 // The header and the two blocks it names.
 use crate::refusal::refuse;
 use crate::stretch::share;
+use gsd_bytes::APPLICATION_PLACE;
+use gsd_bytes::GREATEST_LENGTH;
+use gsd_bytes::HEADER_SIZE;
+use gsd_bytes::INDEX_PLACE;
+use gsd_bytes::NAMELIST_PLACE;
+use gsd_bytes::RESERVED_PLACE;
+use gsd_bytes::SCHEMA_PLACE;
+use gsd_bytes::SEGMENT_SIZE;
+use gsd_bytes::SEGMENTS_PLACE;
+use gsd_bytes::SLOT_SIZE;
+use gsd_bytes::SLOTS_PLACE;
+use gsd_bytes::VERSION;
+use gsd_bytes::VERSION_PLACE;
 use gsd_bytes::has_magic;
 use gsd_bytes::has_zero;
 use gsd_bytes::u32_at;
@@ -12,18 +25,18 @@ ghost use mathlib.Core.Bool.{not, _||_};
 ghost use lib.ListN.{length};
 ghost use lib.Dec.{ltb};
 ghost use Rattle.gsd_format.specs.Bytes.{zeroIn};
-ghost use Rattle.gsd_format.specs.Header.{headerSize, greatestLength, layoutOf};
+ghost use Rattle.gsd_format.specs.Header.{headerSize, greatestLength, applicationPlace, schemaPlace, textSize, layoutOf};
 ghost use Rattle.gsd_format.specs.Opening.{headerTest, blocksTest};
 
 // Is application or schema without a zero byte?
 fn text_open(image: &[u8]) -> bool
-    requires { ⌜ 256 ≤ length (now image) ⌝ }
-    ensures { λ r. ⌜ r ≡ (not (zeroIn (now (image .entry)) 48 64) || not (zeroIn (now (image .entry)) 112 64)) ⌝ }
+    requires { ⌜ headerSize ≤ length (now image) ⌝ }
+    ensures { λ r. ⌜ r ≡ (not (zeroIn (now (image .entry)) applicationPlace textSize) || not (zeroIn (now (image .entry)) schemaPlace textSize)) ⌝ }
 {
-    if !has_zero(image, 48, 112) {
+    if !has_zero(image, APPLICATION_PLACE, SCHEMA_PLACE) {
         return true;
     }
-    !has_zero(image, 112, 176)
+    !has_zero(image, SCHEMA_PLACE, RESERVED_PLACE)
 }
 
 // 1 to 5: the slice's length, the magic, the version, application and schema.
@@ -33,13 +46,13 @@ pub(crate) fn header_number(image: &[u8]) -> u64
     if image.len() < 256 {
         return 1;
     }
-    if 1073741824 < image.len() {
+    if GREATEST_LENGTH < image.len() {
         return 2;
     }
     if !has_magic(image) {
         return 3;
     }
-    if u32_at(image, 44) != 0x00020000 {
+    if u32_at(image, VERSION_PLACE) != VERSION {
         return 4;
     }
     refuse(text_open(image), 5)
@@ -47,15 +60,15 @@ pub(crate) fn header_number(image: &[u8]) -> u64
 
 // The header's four numbers, and the slice's length.
 pub(crate) fn layout_of(image: &[u8]) -> Layout
-    requires { ⌜ 256 ≤ length (now image) ⌝ }
+    requires { ⌜ headerSize ≤ length (now image) ⌝ }
     ensures { λ r. ⌜ r ≡ layoutOf (now (image .entry)) ⌝ }
 {
     Layout {
         len: image.len(),
-        index: u64_at(image, 8),
-        slots: u64_at(image, 16),
-        namelist: u64_at(image, 24),
-        segments: u64_at(image, 32),
+        index: u64_at(image, INDEX_PLACE),
+        slots: u64_at(image, SLOTS_PLACE),
+        namelist: u64_at(image, NAMELIST_PLACE),
+        segments: u64_at(image, SEGMENTS_PLACE),
     }
 }
 
@@ -65,7 +78,7 @@ fn outside(len: usize, start: u64, unit: u64, count: u64) -> bool
     ensures { λ r. ⌜ r ≡ (ltb start headerSize || ltb len (start + unit * count)) ⌝ }
 {
     let end = len as u64;
-    if start < 256 {
+    if start < HEADER_SIZE {
         return true;
     }
     if end < start {
@@ -79,12 +92,17 @@ pub(crate) fn blocks_number(l: Layout) -> u64
     requires { ⌜ l .len ≤ greatestLength ⌝ }
     ensures { λ r. ⌜ r ≡ blocksTest l ⌝ }
 {
-    if outside(l.len, l.index, 32, l.slots) {
+    if outside(l.len, l.index, SLOT_SIZE, l.slots) {
         return 6;
     }
-    if outside(l.len, l.namelist, 64, l.segments) {
+    if outside(l.len, l.namelist, SEGMENT_SIZE, l.segments) {
         return 7;
     }
-    let meet = share(l.index, 32 * l.slots, l.namelist, 64 * l.segments);
+    let meet = share(
+        l.index,
+        SLOT_SIZE * l.slots,
+        l.namelist,
+        SEGMENT_SIZE * l.segments,
+    );
     refuse(meet, 8)
 }

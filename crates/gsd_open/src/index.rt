@@ -3,6 +3,9 @@ use crate::refusal::refuse;
 use crate::stretch::greater;
 use crate::stretch::lesser;
 use crate::stretch::share;
+use gsd_bytes::HEADER_SIZE;
+use gsd_bytes::SEGMENT_SIZE;
+use gsd_bytes::SLOT_SIZE;
 use gsd_bytes::size_of;
 use gsd_bytes::u16_at;
 use gsd_bytes::u32_at;
@@ -15,9 +18,17 @@ ghost use lib.ListN.{length};
 ghost use Rattle.gsd_format.specs.Types.{sizeOf, chunkSize};
 ghost use Rattle.gsd_format.specs.Header.{greatestLength};
 ghost use Rattle.gsd_format.specs.Entries.{entryAt, entriesAt, key};
-ghost use Rattle.gsd_format.specs.Opening.{follows, entryTest};
-ghost use Rattle.gsd_format.proofs.Verdict.{Blocks};
+ghost use Rattle.gsd_format.specs.Opening.{follows, entryTest, Blocks};
 ghost use Rattle.gsd_open.specs.Index.{Capped, fieldsTest, roomTest, Walks};
+
+// A location from here on is negative: it is a signed number.
+const NEGATIVE: u64 = 9223372036854775808;
+
+// Ids are below this.
+const ID_RANGE: u64 = 65536;
+
+// More bytes than the longest slice has.
+const BEYOND: u64 = 1073741825;
 
 // What the walk over the entries finds: a refusal's number or 0, and where that is 0 the entries, the frames and where
 // the last of the chunks ends.
@@ -25,7 +36,7 @@ pub struct Walk {
     pub number: u64,
     pub entries: u64,
     pub frames: u64,
-    pub end: u64,
+    pub chunks_end: u64,
 }
 
 // The entry at a place.
@@ -48,15 +59,16 @@ pub fn entry_at(image: &[u8], at: usize) -> Entry
 pub fn chunk_bytes(n: u64, m: u32, kind: u8) -> u64
     ensures { λ r. ⌜ Capped (n * m * sizeOf kind) r ⌝ }
 {
-    lesser(n, 1073741825) * lesser(m as u64 * size_of(kind), 1073741825)
+    lesser(n, BEYOND) * lesser(m as u64 * size_of(kind), BEYOND)
 }
 
 // (frame, id) in its order, as one number.
 fn key_of(e: Entry) -> u64
     requires { ⌜ e .frame < 2 ^ 47 ⌝ }
-    ensures { λ r. ⌜ (r ≡ key e) × (r < 2 ^ 63) ⌝ }
+    ensures answer { λ r. ⌜ r ≡ key e ⌝ }
+    ensures bound { λ r. ⌜ r < 2 ^ 63 ⌝ }
 {
-    65536 * e.frame + (e.id as u64)
+    ID_RANGE * e.frame + (e.id as u64)
 }
 
 // Does the entry follow one whose key is below least and whose frame is top - 1?
@@ -75,10 +87,10 @@ fn fields_number(names: u64, least: u64, top: u64, e: Entry) -> u64
     requires { ⌜ top < 2 ^ 47 ⌝ }
     ensures { λ r. ⌜ r ≡ fieldsTest names least top e ⌝ }
 {
-    if e.location < 256 {
+    if e.location < HEADER_SIZE {
         return 12;
     }
-    if 9223372036854775808 <= e.location {
+    if NEGATIVE <= e.location {
         return 12;
     }
     if size_of(e.kind) == 0 {
@@ -92,16 +104,19 @@ fn fields_number(names: u64, least: u64, top: u64, e: Entry) -> u64
 
 // 16 and 17: n bytes from place a lie in the slice and outside both blocks.
 fn room_number(l: Layout, a: u64, n: u64) -> u64
-    requires { ⌜ Blocks l × (l .len ≤ greatestLength) × (a < 2 ^ 63) × (n ≤ 2 ^ 63) ⌝ }
+    requires blocks { ⌜ Blocks l ⌝ }
+    requires short { ⌜ l .len ≤ greatestLength ⌝ }
+    requires place { ⌜ a < 2 ^ 63 ⌝ }
+    requires size { ⌜ n ≤ 2 ^ 63 ⌝ }
     ensures { λ r. ⌜ r ≡ roomTest l a n ⌝ }
 {
     if (l.len as u64) < a + n {
         return 16;
     }
-    if share(a, n, l.index, 32 * l.slots) {
+    if share(a, n, l.index, SLOT_SIZE * l.slots) {
         return 17;
     }
-    if share(a, n, l.namelist, 64 * l.segments) {
+    if share(a, n, l.namelist, SEGMENT_SIZE * l.segments) {
         return 17;
     }
     0
@@ -109,7 +124,10 @@ fn room_number(l: Layout, a: u64, n: u64) -> u64
 
 // 12 to 17 for one entry, whose chunk has size bytes.
 fn entry_number(l: Layout, names: u64, least: u64, top: u64, e: Entry, size: u64) -> u64
-    requires { ⌜ Blocks l × (l .len ≤ greatestLength) × (top < 2 ^ 47) × Capped (chunkSize e) size ⌝ }
+    requires blocks { ⌜ Blocks l ⌝ }
+    requires short { ⌜ l .len ≤ greatestLength ⌝ }
+    requires top { ⌜ top < 2 ^ 47 ⌝ }
+    requires sized { ⌜ Capped (chunkSize e) size ⌝ }
     ensures { λ r. ⌜ r ≡ entryTest l names least top e ⌝ }
 {
     let number = fields_number(names, least, top, e);
@@ -121,7 +139,9 @@ fn entry_number(l: Layout, names: u64, least: u64, top: u64, e: Entry, size: u64
 
 // One pass over the listed entries.
 pub(crate) fn walk_entries(image: &[u8], l: Layout, names: u64) -> Walk
-    requires { ⌜ Blocks l × (l .len ≤ greatestLength) × (length (now image) ≡ l .len) ⌝ }
+    requires blocks { ⌜ Blocks l ⌝ }
+    requires short { ⌜ l .len ≤ greatestLength ⌝ }
+    requires long { ⌜ length (now image) ≡ l .len ⌝ }
     ensures { λ r. ⌜ Walks l names (entriesAt (now (image .entry)) (l .index) (l .slots)) r ⌝ }
 {
     let slots = l.slots;
@@ -129,7 +149,7 @@ pub(crate) fn walk_entries(image: &[u8], l: Layout, names: u64) -> Walk
     let mut i = 0;
     let mut least = 0;
     let mut top = 0;
-    let mut end = 0;
+    let mut chunks_end = 0;
     let mut number = 0;
     while i < slots {
         let e = entry_at(image, at);
@@ -143,7 +163,7 @@ pub(crate) fn walk_entries(image: &[u8], l: Layout, names: u64) -> Walk
         }
         least = key_of(e) + 1;
         top = e.frame + 1;
-        end = greater(end, e.location + size);
+        chunks_end = greater(chunks_end, e.location + size);
         at += 32;
         i += 1;
     }
@@ -151,6 +171,6 @@ pub(crate) fn walk_entries(image: &[u8], l: Layout, names: u64) -> Walk
         number,
         entries: i,
         frames: top,
-        end,
+        chunks_end,
     }
 }

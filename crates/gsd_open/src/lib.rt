@@ -2,15 +2,11 @@
 // answers from one. It is leaf code: its functions have a `requires`.
 mod header;
 mod index;
-mod names;
 mod refusal;
 mod stretch;
 mod survey;
 
 pub use index::chunk_bytes;
 pub use index::entry_at;
-pub use names::NameList;
-pub use names::name_id;
-pub use names::name_part;
 pub use survey::Survey;
 pub use survey::survey_of;

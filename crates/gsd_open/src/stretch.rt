@@ -23,7 +23,8 @@ pub(crate) fn lesser(a: u64, b: u64) -> u64
 
 // Do the n bytes from a and the m bytes from b have one in common?
 pub(crate) fn share(a: u64, n: u64, b: u64, m: u64) -> bool
-    requires { ⌜ (a + n < 2 ^ 64) × (b + m < 2 ^ 64) ⌝ }
+    requires first { ⌜ a + n < 2 ^ 64 ⌝ }
+    requires second { ⌜ b + m < 2 ^ 64 ⌝ }
     ensures { λ r. ⌜ r ≡ meets a n b m ⌝ }
 {
     if b + m <= a {

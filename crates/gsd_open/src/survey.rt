@@ -3,11 +3,15 @@ use crate::header::blocks_number;
 use crate::header::header_number;
 use crate::header::layout_of;
 use crate::index::walk_entries;
-use crate::names::NameList;
-use crate::names::name_list;
-use crate::names::names_number;
+use gsd_bytes::SEGMENT_SIZE;
 use gsd_format::Layout;
+use gsd_names::NameList;
+use gsd_names::PLACES;
+use gsd_names::name_list;
+use gsd_names::names_number;
 ghost use mathlib.Core.Path.{_≡_};
+ghost use Prim.Native.Nat.{_+_};
+ghost use Rattle.gsd_format.specs.Opening.{mostNames};
 ghost use lib.ListN.{length};
 ghost use Rattle.gsd_open.specs.Surveys.{Laid, Surveyed};
 
@@ -19,7 +23,7 @@ pub struct Survey {
     pub names: NameList,
     pub entries: u64,
     pub frames: u64,
-    pub end: u64,
+    pub chunks_end: u64,
 }
 
 fn refusal(number: u64) -> Survey
@@ -34,22 +38,26 @@ fn refusal(number: u64) -> Survey
             namelist: 0,
             segments: 0,
         },
-        names: NameList { count: 0, end: 0 },
+        names: NameList {
+            count: 0,
+            list_end: 0,
+        },
         entries: 0,
         frames: 0,
-        end: 0,
+        chunks_end: 0,
     }
 }
 
 // The name list and the entry list, where header and blocks are good.
-fn survey_lists(image: &[u8], layout: Layout, starts: &mut [u32; 1025]) -> Survey
-    requires { ⌜ Laid (now image) layout × (length (now starts) ≡ 1025) ⌝ }
+fn survey_lists(image: &[u8], layout: Layout, starts: &mut [u32; PLACES]) -> Survey
+    requires laid { ⌜ Laid (now image) layout ⌝ }
+    requires places { ⌜ length (now starts) ≡ mostNames + 1 ⌝ }
     ensures { λ r. ⌜ Surveyed (now (image .entry)) (now (starts .exit)) r ⌝ }
 {
     let names = name_list(
         image,
         layout.namelist as usize,
-        64 * layout.segments as usize,
+        SEGMENT_SIZE as usize * layout.segments as usize,
         starts,
     );
     let number = names_number(image, layout, names, starts);
@@ -63,14 +71,14 @@ fn survey_lists(image: &[u8], layout: Layout, starts: &mut [u32; 1025]) -> Surve
         names,
         entries: walk.entries,
         frames: walk.frames,
-        end: walk.end,
+        chunks_end: walk.chunks_end,
     }
 }
 
 // The only place that opens an image: every call for users starts here. The names' places go to starts, which is lent
 // because an answer of its size would be copied.
-pub fn survey_of(image: &[u8], starts: &mut [u32; 1025]) -> Survey
-    requires { ⌜ length (now starts) ≡ 1025 ⌝ }
+pub fn survey_of(image: &[u8], starts: &mut [u32; PLACES]) -> Survey
+    requires { ⌜ length (now starts) ≡ mostNames + 1 ⌝ }
     ensures { λ r. ⌜ Surveyed (now (image .entry)) (now (starts .exit)) r ⌝ }
 {
     let number = header_number(image);

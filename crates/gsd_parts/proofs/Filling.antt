@@ -7,8 +7,7 @@ use native.Mathlib.Omega.{arith}
 use lib.ListN.{length, getD, set, length-set}
 use Rattle.gsd_format.specs.Bytes.{le, roundUp}
 use Rattle.gsd_stores.specs.View.{alignment}
-use Rattle.gsd_stores.specs.Sheet.{rowKind}
-use Rattle.gsd_stores.proofs.Sheet.{rowAt}
+use Rattle.gsd_stores.specs.Sheet.{rowKind, rowAt}
 use Rattle.gsd_sheet.specs.Rows.{Filled}
 use Rattle.gsd_parts.specs.Filling.{Laid, dataOffset, BodiesPlaced, nameOffset, NamesPlaced, EntriesFilled}
 use Rattle.gsd_sheet.proofs.Rows.{filled-none, filled-more, filled-to}

@@ -3,7 +3,7 @@ use mathlib.Core.Path.{_≡_, refl, _∙_, ap}
 use mathlib.Core.List.{List}
 use Prim.Native.Nat.{ℕ}
 use lib.ListN.{replicate}
-use Rattle.gsd_runs.specs.Runs.{headsFrom}
+use Rattle.gsd_turns.specs.Plans.{headsFrom}
 use Rattle.gsd_parts.specs.declared.sites.Block.{Block}
 use Rattle.gsd_parts.specs.declared.sites.Clears.{Clears}
 use Rattle.gsd_parts.specs.Sites.{putClears, putBlock, headsOf}

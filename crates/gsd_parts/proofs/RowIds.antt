@@ -9,16 +9,16 @@ use lib.ListN.{length, getD, set, take, length-set, length-append, List·getD-ap
 use lib.Seq.{getD-set-same, getD-set-other, getD-at, take-all}
 use borrow.Author.Count.{below-more}
 use Rattle.gsd_format.specs.Bytes.{part}
-use Rattle.gsd_format.specs.Names.{flat, indexOf}
-use Rattle.gsd_format.proofs.Ids.{Has, Lacks, Distinct, index-append}
+use Rattle.gsd_format.specs.Names.{flat, indexOf, Has, Lacks, Distinct}
+use Rattle.gsd_format.proofs.Ids.{index-append}
 use Rattle.gsd_format.proofs.Names.{flat-none, flat-more}
 use Rattle.gsd_stores.specs.Sheet.{Row, rowCount, rowsOf, rowNames}
 use Rattle.gsd_stores.specs.Plan.{newNames}
 use Rattle.gsd_stores.specs.Demand3.{noRow}
 use Rattle.gsd_stores.proofs.Sheet.{rows-count}
 use Rattle.gsd_stores.proofs.Rows.{new-listed, new-unlisted, new-next, new-id, new-is, nothing}
-use Rattle.gsd_open.specs.NameLists.{namesIn}
-use Rattle.gsd_open.proofs.NameLists.{names-all, names-long}
+use Rattle.gsd_names.specs.NameLists.{namesIn}
+use Rattle.gsd_names.proofs.NameLists.{names-all, names-long}
 use Rattle.gsd_sheet.specs.Rows.{sheetNames, nameOf, Filled, Located}
 use Rattle.gsd_parts.specs.Order.{paired}
 use Rattle.gsd_parts.specs.RowIds.{pairOf, RowNamed, IdsFound}

@@ -1,12 +1,11 @@
 -- The plan's arrays, from where the rows lie in the sheet: places of data, places of new names, numbers of new entries.
-use Prim.Native.Nat.{ℕ, zero, suc, _+_, _*_, _-_, _/_, _%_, _≤_, _<_}
+use Prim.Native.Nat.{ℕ, zero, suc, _+_, _*_, _-_, _/_, _%_, _^_, _≤_, _<_}
 use mathlib.Core.Path.{_≡_}
 use mathlib.Core.List.{List}
 use lib.ListN.{getD}
-use Rattle.gsd_format.specs.Bytes.{le, roundUp}
-use Rattle.gsd_stores.specs.Sheet.{rowKind}
+use Rattle.gsd_format.specs.Bytes.{roundUp}
+use Rattle.gsd_stores.specs.Sheet.{rowN, rowM, rowKind, rowAt}
 use Rattle.gsd_stores.specs.View.{alignment}
-use Rattle.gsd_stores.proofs.Sheet.{rowAt}
 use Rattle.gsd_parts.specs.declared.fill.BodyPlaces.{BodyPlaces}
 use Rattle.gsd_parts.specs.declared.fill.NamePlaces.{NamePlaces}
 use Rattle.gsd_parts.specs.declared.fill.EntryNumbers.{EntryNumbers}
@@ -40,8 +39,12 @@ pub record NamesPlaced (names bodies rows : List ℕ) (fresh first : ℕ) (r : N
   pub from : Filled (λ j. getD names (getD rows j 0) 0) (r .from) fresh
   pub until : Filled (λ j. getD bodies (getD rows j 0) 0) (r .until) fresh
 
+-- M, id and type of a row as one number: the last word of its entry, whose flags are 0
+abbrev pub metaOf : List ℕ → ℕ → ℕ → ℕ
+metaOf sheet row id = rowM sheet (rowAt row) + 2 ^ 32 * id + 2 ^ 48 * rowKind sheet (rowAt row)
+
 -- the numbers of the entry in slot s, which is that of row (order s % 64), with the id order s / 64
 pub record EntriesFilled (sheet order to : List ℕ) (count : ℕ) (r : EntryNumbers) : Type 0 where
-  pub n : Filled (λ s. le 8 sheet (rowAt (getD order s 0 % 64))) (r .n) count
-  pub meta : Filled (λ s. le 4 sheet (rowAt (getD order s 0 % 64) + 8) + 4294967296 * (getD order s 0 / 64) + 281474976710656 * rowKind sheet (rowAt (getD order s 0 % 64))) (r .meta) count
+  pub n : Filled (λ s. rowN sheet (rowAt (getD order s 0 % 64))) (r .n) count
+  pub meta : Filled (λ s. metaOf sheet (getD order s 0 % 64) (getD order s 0 / 64)) (r .meta) count
   pub location : Filled (λ s. getD to (getD order s 0 % 64) 0) (r .location) count

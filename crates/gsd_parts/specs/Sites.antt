@@ -13,7 +13,8 @@ use Rattle.gsd_runs.specs.declared.run.Run.{Run}
 use Rattle.gsd_parts.specs.declared.sites.Sites.{Sites}
 use Rattle.gsd_parts.specs.declared.sites.Block.{Block}
 use Rattle.gsd_parts.specs.declared.sites.Clears.{Clears}
-use Rattle.gsd_runs.specs.Runs.{Heads, number, none, copied}
+use Rattle.gsd_runs.specs.Runs.{number, none, copied}
+use Rattle.gsd_turns.specs.Plans.{Heads}
 
 -- a run that a block's move needs
 abbrev pub ifMoved : Bool → Run → Run
@@ -65,7 +66,8 @@ indexBlockOf l entries s = blockOf (s .«index_moves») (s .names) (4 * entries)
 -- a run as the k-th six numbers of a list; the clears; a block's runs from the k-th on
 abbrev pub putRun : List ℕ → ℕ → Run → List ℕ
 putRun l k r =
-    set (set (set (set (set (set l (6 * k) (r .kind)) (6 * k + 1) (r .to)) (6 * k + 2) (r .words)) (6 * k + 3) (r .from)) (6 * k + 4) (r .until)) (6 * k + 5) (r .value)
+    let targets : List ℕ = set (set (set l (6 * k) (r .kind)) (6 * k + 1) (r .to)) (6 * k + 2) (r .words) in
+    set (set (set targets (6 * k + 3) (r .from)) (6 * k + 4) (r .until)) (6 * k + 5) (r .value)
 
 abbrev pub putClears : List ℕ → Clears → List ℕ
 putClears l c = putRun (putRun (putRun l 0 (c .index)) 1 (c .keep)) 2 (c .names)

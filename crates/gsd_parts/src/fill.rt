@@ -2,15 +2,14 @@
 ghost use mathlib.Core.Path.{_≡_};
 ghost use Prim.Native.Nat.{ℕ, _+_, _*_, _/_, _%_, _≤_, _<_};
 ghost use lib.ListN.{length, getD};
-ghost use Rattle.gsd_format.specs.Bytes.{le};
-ghost use Rattle.gsd_stores.specs.Sheet.{rowKind};
-ghost use Rattle.gsd_stores.proofs.Sheet.{rowAt};
-ghost use Rattle.gsd_parts.specs.Filling.{Laid, BodiesPlaced, NamesPlaced, EntriesFilled};
+ghost use Rattle.gsd_stores.specs.Sheet.{rowSize, rowAt};
+ghost use Rattle.gsd_parts.specs.Filling.{Laid, BodiesPlaced, NamesPlaced, metaOf, EntriesFilled};
 use gsd_bytes::wide;
 use gsd_sheet::row_kind;
 use gsd_sheet::row_m;
 use gsd_sheet::row_n;
 
+// Where each row's data go and end in the sheet, and where all of them end.
 pub struct BodyPlaces {
     pub to: [usize; 64],
     pub until: [usize; 64],
@@ -24,7 +23,8 @@ pub fn place_bodies(
     count: usize,
     start: usize,
 ) -> BodyPlaces
-    requires { ⌜ Laid (now names) (now bodies) count × (start < 4611686018427387904) ⌝ }
+    requires laid { ⌜ Laid (now names) (now bodies) count ⌝ }
+    requires start { ⌜ start < 4611686018427387904 ⌝ }
     ensures { λ r. ⌜ BodiesPlaced (now (names .entry)) (now (bodies .entry)) count start r ⌝ }
 {
     let mut to = [0usize; 64];
@@ -41,6 +41,7 @@ pub fn place_bodies(
     BodyPlaces { to, until, end: at }
 }
 
+// Where each new name goes, and where it begins and ends in the sheet.
 pub struct NamePlaces {
     pub at: [usize; 64],
     pub from: [usize; 64],
@@ -55,9 +56,11 @@ pub fn place_names(
     fresh: usize,
     first: usize,
 ) -> NamePlaces
-    requires { ⌜ (fresh ≤ 64) × (first < 4611686018427387904) × ((j : ℕ) → j < fresh → getD (now rows) j 0 < 64)
-        × ((j : ℕ) → j < fresh → getD (now names) (getD (now rows) j 0) 0 ≤ getD (now bodies) (getD (now rows) j 0) 0)
-        × ((j : ℕ) → j < fresh → getD (now bodies) (getD (now rows) j 0) 0 < getD (now names) (getD (now rows) j 0) 0 + 256) ⌝ }
+    requires few { ⌜ fresh ≤ 64 ⌝ }
+    requires first { ⌜ first < 4611686018427387904 ⌝ }
+    requires rows { ⌜ ((j : ℕ) → j < fresh → getD (now rows) j 0 < 64) ⌝ }
+    requires name { ⌜ ((j : ℕ) → j < fresh → getD (now names) (getD (now rows) j 0) 0 ≤ getD (now bodies) (getD (now rows) j 0) 0) ⌝ }
+    requires short { ⌜ ((j : ℕ) → j < fresh → getD (now bodies) (getD (now rows) j 0) 0 < getD (now names) (getD (now rows) j 0) 0 + 256) ⌝ }
     ensures { λ r. ⌜ NamesPlaced (now (names .entry)) (now (bodies .entry)) (now (rows .entry)) fresh first r ⌝ }
 {
     let mut at = [0usize; 64];
@@ -78,6 +81,7 @@ pub fn place_names(
     NamePlaces { at, from, until }
 }
 
+// The numbers of the new entries, in the order of their slots.
 pub struct EntryNumbers {
     pub n: [u64; 64],
     pub meta: [u64; 64],
@@ -86,16 +90,19 @@ pub struct EntryNumbers {
 
 // M, id and type of a row as one number.
 fn meta_of(sheet: &[u8], row: usize, id: u64) -> u64
-    requires { ⌜ (rowAt row + 16 ≤ length (now sheet)) × (id < 65536) ⌝ }
-    ensures { λ r. ⌜ r ≡ le 4 (now (sheet .entry)) (rowAt row + 8) + 4294967296 * id + 281474976710656 * rowKind (now (sheet .entry)) (rowAt row) ⌝ }
+    requires inside { ⌜ rowAt row + rowSize ≤ length (now sheet) ⌝ }
+    requires id { ⌜ id < 65536 ⌝ }
+    ensures { λ r. ⌜ r ≡ metaOf (now (sheet .entry)) row id ⌝ }
 {
     row_m(sheet, row) + 4294967296 * id + 281474976710656 * wide(row_kind(sheet, row))
 }
 
 // order[s] is 64 times the id, plus the row, of the entry in slot s; to[row] is where that row's data go.
 pub fn fill_entries(sheet: &[u8], order: &[u64; 64], to: &[usize; 64], count: usize) -> EntryNumbers
-    requires { ⌜ (count ≤ 64) × (rowAt count ≤ length (now sheet)) × ((s : ℕ) → s < count → getD (now order) s 0 % 64 < count)
-        × ((s : ℕ) → s < count → getD (now order) s 0 / 64 < 65536) ⌝ }
+    requires few { ⌜ count ≤ 64 ⌝ }
+    requires table { ⌜ rowAt count ≤ length (now sheet) ⌝ }
+    requires row { ⌜ ((s : ℕ) → s < count → getD (now order) s 0 % 64 < count) ⌝ }
+    requires id { ⌜ ((s : ℕ) → s < count → getD (now order) s 0 / 64 < 65536) ⌝ }
     ensures { λ r. ⌜ EntriesFilled (now (sheet .entry)) (now (order .entry)) (now (to .entry)) count r ⌝ }
 {
     let mut n = [0u64; 64];

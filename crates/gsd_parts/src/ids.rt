@@ -1,14 +1,14 @@
 // The ids of the rows' names: a listed name has its place in the list, the new ones follow in the order of rows.
-use gsd_open::name_id;
+use gsd_names::PLACES;
+use gsd_names::name_id;
 ghost use mathlib.Core.Path.{_≡_};
 ghost use Prim.Native.Nat.{_+_, _-_, _≤_, _<_};
 ghost use lib.ListN.{length};
 ghost use Rattle.gsd_format.specs.Bytes.{part};
-ghost use Rattle.gsd_format.specs.Names.{indexOf};
+ghost use Rattle.gsd_format.specs.Names.{indexOf, Distinct};
 ghost use Rattle.gsd_format.specs.Opening.{mostNames};
-ghost use Rattle.gsd_format.proofs.Ids.{Distinct};
 ghost use Rattle.gsd_stores.specs.Sheet.{rowCount, rowsOf};
-ghost use Rattle.gsd_open.specs.NameLists.{namesIn, Spans};
+ghost use Rattle.gsd_names.specs.NameLists.{namesIn, Spans};
 ghost use Rattle.gsd_sheet.specs.Rows.{sheetNames, Located};
 ghost use Rattle.gsd_parts.specs.Order.{paired};
 ghost use Rattle.gsd_parts.specs.RowIds.{IdsFound};
@@ -23,7 +23,8 @@ pub struct Ids {
 }
 
 fn pair(id: usize, row: usize) -> u64
-    requires { ⌜ (id < 65536) × (row < 64) ⌝ }
+    requires id { ⌜ id < 65536 ⌝ }
+    requires row { ⌜ row < 64 ⌝ }
     ensures { λ r. ⌜ r ≡ paired id row ⌝ }
 {
     64 * (id as u64) + row as u64
@@ -32,13 +33,15 @@ fn pair(id: usize, row: usize) -> u64
 // The id of a name that lies in the sheet.
 fn id_of(
     image: &[u8],
-    starts: &[u32; 1025],
+    starts: &[u32; PLACES],
     names: usize,
     sheet: &[u8],
     from: usize,
     until: usize,
 ) -> usize
-    requires { ⌜ Spans (now starts) names (length (now image)) × ((from ≤ until) × (until ≤ length (now sheet))) ⌝ }
+    requires spans { ⌜ Spans (now starts) names (length (now image)) ⌝ }
+    requires ordered { ⌜ from ≤ until ⌝ }
+    requires inside { ⌜ until ≤ length (now sheet) ⌝ }
     ensures { λ r. ⌜ r ≡ indexOf (part (now (sheet .entry)) from (until - from)) (namesIn (now (image .entry)) (now (starts .entry)) names) ⌝ }
 {
     name_id(image, starts, names, &sheet[from..until])
@@ -47,15 +50,18 @@ fn id_of(
 // Each row's name is searched once.
 pub fn find_ids<'a>(
     image: &[u8],
-    starts: &[u32; 1025],
+    starts: &[u32; PLACES],
     names: usize,
     sheet: &[u8],
     places: &'a [usize; 65],
     bodies: &'a [usize; 64],
     count: usize,
 ) -> Ids
-    requires { ⌜ Spans (now starts) names (length (now image)) × ((names ≤ mostNames) × (Located (now sheet) (now places) (now bodies)
-        × ((count ≡ rowCount (now sheet)) × Distinct (sheetNames (now sheet))))) ⌝ }
+    requires spans { ⌜ Spans (now starts) names (length (now image)) ⌝ }
+    requires few { ⌜ names ≤ mostNames ⌝ }
+    requires located { ⌜ Located (now sheet) (now places) (now bodies) ⌝ }
+    requires counted { ⌜ count ≡ rowCount (now sheet) ⌝ }
+    requires distinct { ⌜ Distinct (sheetNames (now sheet)) ⌝ }
     ensures { λ r. ⌜ IdsFound (namesIn (now (image .entry)) (now (starts .entry)) names) (rowsOf (now (sheet .entry))) r ⌝ }
 {
     let mut packed = [0u64; 64];

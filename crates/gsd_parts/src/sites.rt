@@ -1,4 +1,8 @@
 // Where an append's parts go: the end of use, the places and counts of new blocks, the final position.
+use gsd_bytes::INDEX_PLACE;
+use gsd_bytes::NAMELIST_PLACE;
+use gsd_bytes::SEGMENT_SIZE;
+use gsd_bytes::SLOT_SIZE;
 ghost use mathlib.Core.Path.{_≡_};
 ghost use mathlib.Core.Bool.{true, cond};
 ghost use Prim.Native.Nat.{_+_, _*_, _-_, _/_, _≤_, _<_, max, min};
@@ -6,7 +10,8 @@ ghost use Rattle.gsd_format.specs.Bytes.{roundUp};
 ghost use Rattle.gsd_format.specs.Header.{headerSize, greatestLength};
 ghost use Rattle.gsd_stores.specs.View.{alignment, indexEnd, namelistEnd};
 ghost use Rattle.gsd_stores.specs.Plan.{grown};
-ghost use Rattle.gsd_runs.specs.Runs.{number, copied, headsFrom};
+ghost use Rattle.gsd_runs.specs.Runs.{number, copied};
+ghost use Rattle.gsd_turns.specs.Plans.{headsFrom};
 ghost use Rattle.gsd_parts.specs.Sites.{sitesOf, blockOf, clearsOf, nameBlockOf, indexBlockOf, putRun, putClears, putBlock, headsOf, Sited};
 use gsd_format::Layout;
 use gsd_runs::Run;
@@ -27,18 +32,22 @@ fn rounded(n: u64) -> u64
 
 // The end of use, from the layout and the end of the listed chunks.
 pub fn end_of_use(l: Layout, chunks: u64) -> u64
-    requires { ⌜ (indexEnd l ≤ greatestLength) × (namelistEnd l ≤ greatestLength) × (chunks ≤ greatestLength) ⌝ }
+    requires index { ⌜ indexEnd l ≤ greatestLength ⌝ }
+    requires names { ⌜ namelistEnd l ≤ greatestLength ⌝ }
+    requires chunks { ⌜ chunks ≤ greatestLength ⌝ }
     ensures { λ r. ⌜ r ≡ roundUp alignment (max headerSize (max (indexEnd l) (max (namelistEnd l) chunks))) ⌝ }
 {
-    let index = l.index + 32 * l.slots;
-    let names = l.namelist + 64 * l.segments;
+    let index = l.index + SLOT_SIZE * l.slots;
+    let names = l.namelist + SEGMENT_SIZE * l.segments;
     rounded(greater(256, greater(index, greater(names, chunks))))
 }
 
 // The old count, at least 1, doubled as often as needed and at least once.
 fn grown_count(need: u64, old: u64) -> u64
-    requires { ⌜ (need < 4611686018427387904) × (old < 2305843009213693952) ⌝ }
-    ensures { λ r. ⌜ (r ≡ grown need old) × (r ≤ max (2 * max 1 old) (2 * need)) ⌝ }
+    requires need { ⌜ need < 4611686018427387904 ⌝ }
+    requires old { ⌜ old < 2305843009213693952 ⌝ }
+    ensures answer { λ r. ⌜ r ≡ grown need old ⌝ }
+    ensures bound { λ r. ⌜ r ≤ max (2 * max 1 old) (2 * need) ⌝ }
 {
     let mut count = 2 * greater(1, old);
     while count < need {
@@ -60,23 +69,29 @@ pub struct Sites {
 
 // The position behind a block of so many bytes, if it is there.
 fn behind(there: bool, at: u64, bytes: u64) -> u64
-    requires { ⌜ (at < 4611686018427387904) × (bytes < 4611686018427387904) ⌝ }
-    ensures { λ r. ⌜ (r ≡ cond «there» (at + bytes) at) × (r ≤ at + bytes) ⌝ }
+    requires at { ⌜ at < 4611686018427387904 ⌝ }
+    requires bytes { ⌜ bytes < 4611686018427387904 ⌝ }
+    ensures answer { λ r. ⌜ r ≡ cond «there» (at + bytes) at ⌝ }
+    ensures bound { λ r. ⌜ r ≤ at + bytes ⌝ }
 {
     if there { at + bytes } else { at }
 }
 
 // end: where the data end; bytes: of all names, old and new; count: of all entries.
 pub fn find_sites(l: Layout, end: u64, bytes: u64, count: u64) -> Sites
-    requires { ⌜ (end < 1152921504606846976) × (bytes < 1099511627776) × (count < 1099511627776) × (l .slots < 1099511627776) × (l .segments < 1099511627776) ⌝ }
+    requires end { ⌜ end < 1152921504606846976 ⌝ }
+    requires bytes { ⌜ bytes < 1099511627776 ⌝ }
+    requires count { ⌜ count < 1099511627776 ⌝ }
+    requires slots { ⌜ l .slots < 1099511627776 ⌝ }
+    requires segments { ⌜ l .segments < 1099511627776 ⌝ }
     ensures { λ r. ⌜ r ≡ sitesOf l end bytes count ⌝ }
 {
-    let segments = grown_count((bytes + 63) / 64, l.segments);
+    let segments = grown_count((bytes + 63) / SEGMENT_SIZE, l.segments);
     let slots = grown_count(count, l.slots);
-    let names_move = 64 * l.segments < bytes;
+    let names_move = SEGMENT_SIZE * l.segments < bytes;
     let index_moves = l.slots < count;
-    let names = behind(names_move, end, 64 * segments);
-    let last = behind(index_moves, names, 32 * slots);
+    let names = behind(names_move, end, SEGMENT_SIZE * segments);
+    let last = behind(index_moves, names, SLOT_SIZE * slots);
     Sites {
         body: end,
         names_move,
@@ -133,7 +148,10 @@ fn block_runs(
     h: usize,
     count: u64,
 ) -> Block
-    requires { ⌜ (to < 1152921504606846976) × (listed < 1152921504606846976) × (h < 32) × (moves ≡ true → listed ≤ words) ⌝ }
+    requires to { ⌜ to < 1152921504606846976 ⌝ }
+    requires listed { ⌜ listed < 1152921504606846976 ⌝ }
+    requires header { ⌜ h < 32 ⌝ }
+    requires fits { ⌜ (moves ≡ true → listed ≤ words) ⌝ }
     ensures { λ r. ⌜ r ≡ blockOf moves to listed words from until h count ⌝ }
 {
     if !moves {
@@ -173,11 +191,14 @@ fn less_one(n: usize) -> usize
 
 // end: the name list's.
 fn clear_runs(l: Layout, entries: usize, end: usize) -> Clears
-    requires { ⌜ (indexEnd l ≤ greatestLength) × (namelistEnd l ≤ greatestLength) × (entries ≤ l .slots) × (end ≤ namelistEnd l) ⌝ }
+    requires index { ⌜ indexEnd l ≤ greatestLength ⌝ }
+    requires names { ⌜ namelistEnd l ≤ greatestLength ⌝ }
+    requires entries { ⌜ entries ≤ l .slots ⌝ }
+    requires end { ⌜ end ≤ namelistEnd l ⌝ }
     ensures { λ r. ⌜ r ≡ clearsOf l entries end ⌝ }
 {
     let first = end / 8 * 8;
-    let words = ((l.namelist + 64 * l.segments) as usize - first) / 8;
+    let words = ((l.namelist + SEGMENT_SIZE * l.segments) as usize - first) / 8;
     let kept = at_most_one(words);
     let index = number_run(
         l.index as usize + 32 * entries,
@@ -189,8 +210,13 @@ fn clear_runs(l: Layout, entries: usize, end: usize) -> Clears
     Clears { index, keep, names }
 }
 
+// The runs of step 3.
 fn name_block(l: Layout, end: usize, s: Sites) -> Block
-    requires { ⌜ (end ≤ greatestLength) × (l .namelist ≤ end) × (s .body < 1152921504606846976) × (s .segments < 1152921504606846976) × (s .«names_move» ≡ true → end ≤ l .namelist + 64 * s .segments) ⌝ }
+    requires end { ⌜ end ≤ greatestLength ⌝ }
+    requires list { ⌜ l .namelist ≤ end ⌝ }
+    requires body { ⌜ s .body < 1152921504606846976 ⌝ }
+    requires segments { ⌜ s .segments < 1152921504606846976 ⌝ }
+    requires fits { ⌜ (s .«names_move» ≡ true → end ≤ l .namelist + 64 * s .segments) ⌝ }
     ensures { λ r. ⌜ r ≡ nameBlockOf l end s ⌝ }
 {
     let listed = (end - l.namelist as usize + 7) / 8;
@@ -201,13 +227,17 @@ fn name_block(l: Layout, end: usize, s: Sites) -> Block
         8 * s.segments as usize,
         l.namelist as usize,
         end,
-        24,
+        NAMELIST_PLACE,
         s.segments,
     )
 }
 
+// The runs of step 5.
 fn index_block(l: Layout, entries: usize, s: Sites) -> Block
-    requires { ⌜ (l .index + 32 * entries ≤ greatestLength) × (s .names < 1152921504606846976) × (s .slots < 1152921504606846976) × (s .«index_moves» ≡ true → entries ≤ s .slots) ⌝ }
+    requires entries { ⌜ l .index + 32 * entries ≤ greatestLength ⌝ }
+    requires names { ⌜ s .names < 1152921504606846976 ⌝ }
+    requires slots { ⌜ s .slots < 1152921504606846976 ⌝ }
+    requires fits { ⌜ (s .«index_moves» ≡ true → entries ≤ s .slots) ⌝ }
     ensures { λ r. ⌜ r ≡ indexBlockOf l entries s ⌝ }
 {
     let end = l.index as usize + 32 * entries;
@@ -218,7 +248,7 @@ fn index_block(l: Layout, entries: usize, s: Sites) -> Block
         4 * s.slots as usize,
         l.index as usize,
         end,
-        8,
+        INDEX_PLACE,
         s.slots,
     )
 }
@@ -266,6 +296,7 @@ fn lay_heads(c: Clears, names: Block, index: Block) -> [u64; 66]
     heads
 }
 
+// All runs that are there once.
 pub fn heads_for(l: Layout, entries: usize, end: usize, s: Sites) -> [u64; 66]
     requires { ⌜ Sited l entries end s ⌝ }
     ensures { λ r. ⌜ headsFrom r ≡ headsOf (clearsOf l entries end) (nameBlockOf l end s) (indexBlockOf l entries s) ⌝ }

@@ -15,7 +15,7 @@ use Rattle.gsd_format.specs.Lookup.{nthEntry, nthName, findEntry, lookup}
 use Rattle.gsd_format.proofs.Verdict.{opening-open}
 use Rattle.gsd_format.proofs.Lookup.{look-frame, look-name, look-entry, opened-lookup, opened-entry, opened-no-entry, opened-name, opened-no-name}
 use Rattle.gsd_open.specs.declared.survey.Survey.{Survey}
-use Rattle.gsd_open.specs.NameLists.{partAt, namesIn}
+use Rattle.gsd_names.specs.NameLists.{partAt, namesIn}
 use Rattle.gsd_open.specs.Surveys.{Surveyed}
 use Rattle.gsd_open.proofs.Surveys as survey
 

@@ -1,13 +1,12 @@
--- Laws of what is found: the search for an entry slot by slot, where names and chunks lie, and the elements of a chunk.
-use Prim.Native.Nat.{ℕ, zero, suc, _+_, _*_, _-_, _^_, _≤_, _<_}
+-- Laws of what is found: the search for an entry slot by slot, where names and chunks lie, and the element of an entry that is found.
+use Prim.Native.Nat.{ℕ, zero, suc, _+_, _*_, _-_, _≤_, _<_}
 use mathlib.Core.Path.{_≡_, refl, sym, _∙_, ap}
 use mathlib.Core.Bool.{true, false, _&&_}
 use mathlib.Core.List.{List, [], _∷_}
-use native.Mathlib.Nat.{mul-le-mul-right, le-mul-of-pos-right}
 use native.Mathlib.Numerals.{add-one}
 use native.Mathlib.Decide.{decLt}
 use native.Mathlib.Omega.{arith}
-use lib.ListN.{length, getD, drop, drop-of-length-le}
+use lib.ListN.{length, drop, drop-of-length-le}
 use lib.Seq.{drop-cons}
 use lib.Dec.{eqb}
 use Rattle.gsd_format.specs.declared.Entry.{Entry}
@@ -15,22 +14,22 @@ use Rattle.gsd_format.specs.declared.Listed.{Listed}
 use Rattle.gsd_format.specs.declared.Part.{Part}
 use Rattle.gsd_format.specs.declared.Place.{Place}
 use Rattle.gsd_format.specs.declared.Element.{Element}
-use Rattle.gsd_format.specs.Bytes.{le, part}
-use Rattle.gsd_format.specs.Header.{greatestLength, layoutOf}
-use Rattle.gsd_format.specs.Types.{sizeOf, chunkSize}
+use Rattle.gsd_format.specs.Bytes.{part}
+use Rattle.gsd_format.specs.Header.{layoutOf}
+use Rattle.gsd_format.specs.Types.{chunkSize}
 use Rattle.gsd_format.specs.Names.{nameParts, namesOf}
 use Rattle.gsd_format.specs.Entries.{entryAt, entriesOf}
 use Rattle.gsd_format.specs.Opening.{verdict}
 use Rattle.gsd_format.specs.Lookup.{none, nowhere, nthName, findEntry, lookup, placed, chunkPlace, bytesAt}
-use Rattle.gsd_format.specs.Elements.{elementOf, elementIn, element}
+use Rattle.gsd_format.specs.Elements.{elementIn, element}
 use Rattle.gsd_format.proofs.Lists.{each-at}
-use Rattle.gsd_format.proofs.Names.{Lies, parts-lie}
+use Rattle.gsd_format.proofs.Names.{Lies, parts-within}
 use Rattle.gsd_format.proofs.Verdict.{Sound, verdict-zero}
 use Rattle.gsd_format.proofs.Lookup.{find-end, find-sound, look-found, opened-lookup, opened-name, opened-no-name, refused-name, found-opens}
-use Rattle.gsd_format.proofs.Elements.{element-at}
 use Rattle.gsd_open.specs.Index.{Capped}
 use Rattle.gsd_open.proofs.Surveys.{layout-length, slot-entry}
-use Rattle.gsd_read.specs.Lookups.{Inside, LiesAt, Held}
+use Rattle.gsd_elements.specs.Held.{Held}
+use Rattle.gsd_read.specs.Lookups.{Inside, LiesAt}
 
 -- The search for an entry
 
@@ -84,12 +83,12 @@ unfolding LiesAt
 lies-anywhere place n p q e = rw e tt
 
 pub name-inside : (img : List ℕ) (n : ℕ) → Inside img (nthName img n)
-unfolding Inside nameParts
+unfolding Inside
 name-inside img n = go (verdict img) refl (decLt n (length (nameParts img)))
   where
     go : (v : ℕ) → verdict img ≡ v → Dec (n < length (nameParts img)) → Inside img (nthName img n)
     go zero e (yes l) =
-        let lies = each-at (Lies img (layoutOf img .namelist) (64 * layoutOf img .segments)) (nameParts img) nowhere (parts-lie img _ _) n l in
+        let lies = each-at (Lies img (layoutOf img .namelist) (64 * layoutOf img .segments)) (nameParts img) nowhere (parts-within img) n l in
         rw (opened-name img e n l) (omega (arith, lies .high, verdict-zero img .0 e .blocks .namelistHigh, layout-length img (layoutOf img) refl))
     go zero e (no l) = rw (opened-no-name img e n (omega arith)) tt
     go (suc k) e l = rw (refused-name img k e n) tt
@@ -130,26 +129,6 @@ chunk-inside img frame name = go (lookup img frame name) refl
     go (Listed.Refused n) h = tt
 
 -- Elements
-
--- a number of k bytes, where the type has k
-pub bits-are : (img : List ℕ) (at kind k r : ℕ) → sizeOf kind ≡ k → r ≡ le k img at → r < 256 ^ k → (r ≡ le (sizeOf kind) img at) × (r < 256 ^ sizeOf kind)
-bits-are img at kind k r e h b = rw e (h, b)
-
-pub one-byte : (img : List ℕ) (at : ℕ) → getD img at 0 ≡ le 1 img at
-unfolding le
-one-byte img at = omega arith
-
-module _ (img : List ℕ) (e : Entry) (held : Held img e) where
-  pub few-elements : e .n * e .m ≤ greatestLength
-  few-elements = omega (arith, le-mul-of-pos-right (e .n * e .m) (held .typed), held .within, held .short)
-
-  pub element-within : (k size : ℕ) → k < e .n * e .m → size ≡ sizeOf (e .kind) → e .location + k * size + size ≤ length img
-  element-within k size h q = rw q (omega (arith, mul-le-mul-right (sizeOf (e .kind)) h, held .within))
-
-  pub element-here : (k size bits : ℕ) → k < e .n * e .m → size ≡ sizeOf (e .kind) → bits ≡ le (sizeOf (e .kind)) img (e .location + k * size) →
-      elementOf (e .kind) bits ≡ elementIn img e k
-  element-here k size bits h q b =
-      ap (elementOf (e .kind)) (b ∙ ap (λ s. le (sizeOf (e .kind)) img (e .location + k * s)) q) ∙ sym (element-at img e k h)
 
 pub element-found : (img : List ℕ) (frame : ℕ) (name : List ℕ) (k : ℕ) (e : Entry) → lookup img frame name ≡ Listed.Found e →
     element img frame name k ≡ elementIn img e k

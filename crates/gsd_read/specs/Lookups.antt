@@ -1,12 +1,9 @@
 -- What is found lies in the image, and is handed out as that part of the image itself.
-use Prim.Native.Nat.{ℕ, _+_, _≤_, _<_}
+use Prim.Native.Nat.{ℕ, _+_, _≤_}
 use mathlib.Core.Path.{_≡_}
 use mathlib.Core.List.{List}
 use lib.ListN.{length}
-use Rattle.gsd_format.specs.declared.Entry.{Entry}
 use Rattle.gsd_format.specs.declared.Place.{Place}
-use Rattle.gsd_format.specs.Types.{sizeOf, chunkSize}
-use Rattle.gsd_format.specs.Header.{greatestLength}
 
 -- a place that is no refusal lies in the image
 unfoldable pub Inside : List ℕ → Place → Type 0
@@ -18,9 +15,3 @@ Inside img (Place.Refused n) = Unit
 unfoldable pub LiesAt : ℕ × ℕ → Place → ℕ × ℕ → Type 0
 LiesAt p (Place.At a) q = (q .0 ≡ p .0) × (q .1 ≡ p .1 + a .start)
 LiesAt p (Place.Refused n) q = Unit
-
--- an entry of a known type whose chunk lies in the image
-pub record Held (img : List ℕ) (e : Entry) : Type 0 where
-  pub typed : 0 < sizeOf (e .kind)
-  pub within : e .location + chunkSize e ≤ length img
-  pub short : length img ≤ greatestLength

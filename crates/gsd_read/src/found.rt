@@ -1,14 +1,18 @@
-// What is found in an image: its counts, the n-th entry and name, the entry of a frame and a name, and its chunk.
+// What is found in an image: its counts, the n-th entry and name, the entry of a frame and a name, its chunk and elements.
+use gsd_bytes::SLOT_SIZE;
+use gsd_elements::element_in;
 use gsd_format::Counts;
+use gsd_format::Element;
 use gsd_format::Entry;
 use gsd_format::Listed;
 use gsd_format::Opening;
 use gsd_format::Part;
 use gsd_format::Place;
+use gsd_names::PLACES;
+use gsd_names::name_id;
+use gsd_names::name_part;
 use gsd_open::chunk_bytes;
 use gsd_open::entry_at;
-use gsd_open::name_id;
-use gsd_open::name_part;
 use gsd_open::survey_of;
 ghost use mathlib.Core.Path.{_≡_};
 ghost use mathlib.Core.Bool.{_&&_};
@@ -20,9 +24,11 @@ ghost use Rattle.gsd_format.specs.Header.{layoutOf};
 ghost use Rattle.gsd_format.specs.Entries.{entriesOf};
 ghost use Rattle.gsd_format.specs.Opening.{verdict, opening};
 ghost use Rattle.gsd_format.specs.Lookup.{nthEntry, nthName, findEntry, lookup, chunkPlace, bytesAt};
+ghost use Rattle.gsd_format.specs.Elements.{element};
 ghost use Rattle.gsd_format.specs.Answers.{openingNumber, openingValues, listedNumber, listedValues, placeNumber, placeValues};
+ghost use Rattle.gsd_format.specs.Answers.{elementNumber, elementValues};
 ghost use Rattle.gsd_format.specs.Calls.{openValues, nthEntryTest, nthEntryValues, nthNameTest, nthNameValues};
-ghost use Rattle.gsd_format.specs.Calls.{lookupTest, lookupValues, chunkValues};
+ghost use Rattle.gsd_format.specs.Calls.{lookupTest, lookupValues, chunkValues, elementTest, nthElementValues};
 ghost use Rattle.gsd_read.specs.Lookups.{Inside, LiesAt};
 
 // How many frames, names and entries an image has, or why it is refused.
@@ -31,7 +37,7 @@ pub fn open(image: &[u8]) -> Opening
     ensures number { λ r. ⌜ openingNumber r ≡ verdict (now (image .entry)) ⌝ }
     ensures values { λ r. ⌜ openingValues r ≡ openValues (now (image .entry)) ⌝ }
 {
-    let mut starts = [0u32; 1025];
+    let mut starts = [0u32; PLACES];
     let s = survey_of(image, &mut starts);
     if s.number != 0 {
         return Opening::Refused(s.number);
@@ -49,7 +55,7 @@ pub fn entry(image: &[u8], n: u64) -> Listed
     ensures number { λ r. ⌜ listedNumber r ≡ nthEntryTest (now (image .entry)) n ⌝ }
     ensures values { λ r. ⌜ listedValues r ≡ nthEntryValues (now (image .entry)) n ⌝ }
 {
-    let mut starts = [0u32; 1025];
+    let mut starts = [0u32; PLACES];
     let s = survey_of(image, &mut starts);
     if s.number != 0 {
         return Listed::Refused(s.number);
@@ -57,7 +63,7 @@ pub fn entry(image: &[u8], n: u64) -> Listed
     if s.entries <= n {
         return Listed::Refused(44);
     }
-    Listed::Found(entry_at(image, (s.layout.index + 32 * n) as usize))
+    Listed::Found(entry_at(image, (s.layout.index + SLOT_SIZE * n) as usize))
 }
 
 // Where the name with id n lies, without its zero.
@@ -66,7 +72,7 @@ pub fn name(image: &[u8], n: u64) -> Place
     ensures number { λ r. ⌜ placeNumber r ≡ nthNameTest (now (image .entry)) n ⌝ }
     ensures values { λ r. ⌜ placeValues r ≡ nthNameValues (now (image .entry)) n ⌝ }
 {
-    let mut starts = [0u32; 1025];
+    let mut starts = [0u32; PLACES];
     let s = survey_of(image, &mut starts);
     if s.number != 0 {
         return Place::Refused(s.number);
@@ -79,9 +85,11 @@ pub fn name(image: &[u8], n: u64) -> Place
 
 // The bytes from start up to end, where they lie.
 fn stretch(image: &[u8], start: usize, end: usize) -> &[u8]
-    requires { ⌜ (start ≤ end) × (end ≤ length (now image)) ⌝ }
+    requires ordered { ⌜ start ≤ end ⌝ }
+    requires inside { ⌜ end ≤ length (now image) ⌝ }
     ensures { λ r. ⌜ now r ≡ part (now (image .entry)) start (end - start) ⌝ }
-    ensures itself { λ r. ⌜ (r .ptr .0 ≡ image .entry .ptr .0) × (r .ptr .1 ≡ image .entry .ptr .1 + start) ⌝ }
+    ensures base { λ r. ⌜ r .ptr .0 ≡ image .entry .ptr .0 ⌝ }
+    ensures offset { λ r. ⌜ r .ptr .1 ≡ image .entry .ptr .1 + start ⌝ }
 {
     &image[start..end]
 }
@@ -117,7 +125,9 @@ fn matches(e: Entry, frame: u64, id: u64) -> bool
 
 // The entry of a frame and an id among the listed entries, count of them from index on.
 fn find_entry(image: &[u8], index: u64, count: u64, frame: u64, id: u64) -> Listed
-    requires { ⌜ (verdict (now image) ≡ 0) × (index ≡ layoutOf (now image) .index) × (count ≡ length (entriesOf (now image))) ⌝ }
+    requires opens { ⌜ verdict (now image) ≡ 0 ⌝ }
+    requires index { ⌜ index ≡ layoutOf (now image) .index ⌝ }
+    requires counted { ⌜ count ≡ length (entriesOf (now image)) ⌝ }
     ensures { λ r. ⌜ r ≡ findEntry frame id (entriesOf (now (image .entry))) ⌝ }
 {
     let mut at = index as usize;
@@ -139,7 +149,7 @@ pub fn lookup(image: &[u8], frame: u64, name: &[u8]) -> Listed
     ensures number { λ r. ⌜ listedNumber r ≡ lookupTest (now (image .entry)) frame (now (name .entry)) ⌝ }
     ensures values { λ r. ⌜ listedValues r ≡ lookupValues (now (image .entry)) frame (now (name .entry)) ⌝ }
 {
-    let mut starts = [0u32; 1025];
+    let mut starts = [0u32; PLACES];
     let s = survey_of(image, &mut starts);
     if s.number != 0 {
         return Listed::Refused(s.number);
@@ -178,4 +188,16 @@ pub fn chunk<'a>(image: &'a [u8], frame: u64, name: &[u8]) -> &'a [u8]
 {
     let place = chunk_place(image, frame, name);
     part_at(image, place)
+}
+
+// The k-th element of the chunk of a frame and a name, from 0, with its exact bits.
+pub fn element(image: &[u8], frame: u64, name: &[u8], k: u64) -> Element
+    ensures { λ r. ⌜ r ≡ element (now (image .entry)) frame (now (name .entry)) k ⌝ }
+    ensures number { λ r. ⌜ elementNumber r ≡ elementTest (now (image .entry)) frame (now (name .entry)) k ⌝ }
+    ensures values { λ r. ⌜ elementValues r ≡ nthElementValues (now (image .entry)) frame (now (name .entry)) k ⌝ }
+{
+    match lookup(image, frame, name) {
+        Listed::Found(e) => element_in(image, e, k),
+        Listed::Refused(number) => Element::Refused(number),
+    }
 }

@@ -1,11 +1,10 @@
 // Reading an image: what opening, the names, the entries, the lookup, chunks and elements answer. Every call opens the
 // image.
-mod elements;
 mod found;
 
-pub use elements::element;
 pub use found::chunk;
 pub use found::chunk_place;
+pub use found::element;
 pub use found::entry;
 pub use found::lookup;
 pub use found::name;

@@ -2,6 +2,4 @@
 pub mod Words
 pub mod Steps
 pub mod Runs
-pub mod Count
-pub mod Turns
 pub mod OneStore

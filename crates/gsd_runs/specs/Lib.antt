@@ -1,4 +1,3 @@
--- What runs of stores are, what they do to an image, and how many of them a turn makes.
+-- What runs of stores are, and what they do to an image.
 pub mod Exec
 pub mod Runs
-pub mod Turns

@@ -1,8 +1,5 @@
-// The plan of an append as runs of stores, and the loop that makes them on the image. It is leaf code of the append: its
-// functions have a `requires`.
-mod plan;
+// A run of stores, and the loops that make them on the image. It is leaf code of the append: its functions have a `requires`.
 mod run;
-pub mod turn;
 
-pub use plan::Plan;
 pub use run::Run;
+pub use run::stores;

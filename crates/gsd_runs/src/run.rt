@@ -22,7 +22,8 @@ pub struct Run {
 }
 
 fn place(run: Run, w: usize) -> usize
-    requires { ⌜ (run .to + 8 * run .words < 18446744073709551616) × (w < run .words) ⌝ }
+    requires target { ⌜ run .to + 8 * run .words < 18446744073709551616 ⌝ }
+    requires word { ⌜ w < run .words ⌝ }
     ensures { λ r. ⌜ r ≡ placeOf run w ⌝ }
 {
     if run.kind == 3 {
@@ -32,7 +33,9 @@ fn place(run: Run, w: usize) -> usize
 }
 
 fn source(run: Run, w: usize) -> usize
-    requires { ⌜ (run .to + 8 * run .words < 18446744073709551616) × ((run .from + 8 * run .words < 18446744073709551616) × (w < run .words)) ⌝ }
+    requires target { ⌜ run .to + 8 * run .words < 18446744073709551616 ⌝ }
+    requires source { ⌜ run .from + 8 * run .words < 18446744073709551616 ⌝ }
+    requires word { ⌜ w < run .words ⌝ }
     ensures { λ r. ⌜ r ≡ sourceOf run w ⌝ }
 {
     if run.kind == 3 {
@@ -44,7 +47,8 @@ fn source(run: Run, w: usize) -> usize
 // A byte of a slice that is cut off.
 fn cut_byte(s: &[u8], i: usize, until: usize) -> u64
     requires { ⌜ until ≤ length (now s) ⌝ }
-    ensures { λ r. ⌜ (r ≡ getD (take until (now (s .entry))) i 0) × (r < 256) ⌝ }
+    ensures answer { λ r. ⌜ r ≡ getD (take until (now (s .entry))) i 0 ⌝ }
+    ensures bound { λ r. ⌜ r < 256 ⌝ }
 {
     if i < until {
         return wide(s[i]);
@@ -54,8 +58,12 @@ fn cut_byte(s: &[u8], i: usize, until: usize) -> u64
 
 // A byte of the image with a part of the sheet laid over it.
 fn over_byte(image: &[u8], sheet: &[u8], at: usize, from: usize, until: usize, i: usize) -> u64
-    requires { ⌜ (from ≤ until) × ((until ≤ length (now sheet)) × ((at + (until - from) ≤ length (now image)) × (i < length (now image)))) ⌝ }
-    ensures { λ r. ⌜ (r ≡ getD (over (now (image .entry)) (now (sheet .entry)) at from until) i 0) × (r < 256) ⌝ }
+    requires ordered { ⌜ from ≤ until ⌝ }
+    requires inside { ⌜ until ≤ length (now sheet) ⌝ }
+    requires laid { ⌜ at + (until - from) ≤ length (now image) ⌝ }
+    requires read { ⌜ i < length (now image) ⌝ }
+    ensures answer { λ r. ⌜ r ≡ getD (over (now (image .entry)) (now (sheet .entry)) at from until) i 0 ⌝ }
+    ensures bound { λ r. ⌜ r < 256 ⌝ }
 {
     if i < at {
         return wide(image[i]);
@@ -69,8 +77,11 @@ fn over_byte(image: &[u8], sheet: &[u8], at: usize, from: usize, until: usize, i
 
 // A byte of the text in which a run's words are read.
 fn far_byte(image: &[u8], sheet: &[u8], run: Run, i: usize) -> u64
-    requires { ⌜ Good (length (now image)) (length (now sheet)) run × ((run .kind ≡ 2 → ⊥) × (run .kind ≡ 3 → i < length (now image))) ⌝ }
-    ensures { λ r. ⌜ (r ≡ getD (textOf (now (sheet .entry)) (now (image .entry)) run) i 0) × (r < 256) ⌝ }
+    requires good { ⌜ Good (length (now image)) (length (now sheet)) run ⌝ }
+    requires copies { ⌜ (run .kind ≡ 2 → ⊥) ⌝ }
+    requires read { ⌜ (run .kind ≡ 3 → i < length (now image)) ⌝ }
+    ensures answer { λ r. ⌜ r ≡ getD (textOf (now (sheet .entry)) (now (image .entry)) run) i 0 ⌝ }
+    ensures bound { λ r. ⌜ r < 256 ⌝ }
 {
     if run.kind == 0 {
         return cut_byte(image, i, run.until);
@@ -83,7 +94,9 @@ fn far_byte(image: &[u8], sheet: &[u8], run: Run, i: usize) -> u64
 
 // Any word that is no number, byte by byte.
 fn far_word(image: &[u8], sheet: &[u8], run: Run, w: usize) -> u64
-    requires { ⌜ Good (length (now image)) (length (now sheet)) run × ((run .kind ≡ 2 → ⊥) × (w < run .words)) ⌝ }
+    requires good { ⌜ Good (length (now image)) (length (now sheet)) run ⌝ }
+    requires copies { ⌜ (run .kind ≡ 2 → ⊥) ⌝ }
+    requires word { ⌜ w < run .words ⌝ }
     ensures { λ r. ⌜ r ≡ le 8 (textOf (now (sheet .entry)) (now (image .entry)) run) (sourceOf run w) ⌝ }
 {
     let at = source(run, w);
@@ -98,7 +111,8 @@ fn far_word(image: &[u8], sheet: &[u8], run: Run, w: usize) -> u64
 
 // A number, or a word whole before the cut.
 fn near_word(image: &[u8], sheet: &[u8], run: Run, w: usize) -> u64
-    requires { ⌜ Good (length (now image)) (length (now sheet)) run × Near run w ⌝ }
+    requires good { ⌜ Good (length (now image)) (length (now sheet)) run ⌝ }
+    requires near { ⌜ Near run w ⌝ }
     ensures { λ r. ⌜ r ≡ wordOf (now (sheet .entry)) (now (image .entry)) run w ⌝ }
 {
     if run.kind == 2 {
@@ -113,7 +127,9 @@ fn near_word(image: &[u8], sheet: &[u8], run: Run, w: usize) -> u64
 
 // `near` is tested first: where it is known, one of the two ways is left, and the loop over near words moves blocks.
 fn word_at(image: &[u8], sheet: &[u8], run: Run, w: usize, near: bool) -> u64
-    requires { ⌜ Good (length (now image)) (length (now sheet)) run × ((w < run .words) × (near ≡ true → Near run w)) ⌝ }
+    requires good { ⌜ Good (length (now image)) (length (now sheet)) run ⌝ }
+    requires word { ⌜ w < run .words ⌝ }
+    requires near { ⌜ (near ≡ true → Near run w) ⌝ }
     ensures { λ r. ⌜ r ≡ wordOf (now (sheet .entry)) (now (image .entry)) run w ⌝ }
 {
     if near {
@@ -127,8 +143,11 @@ fn word_at(image: &[u8], sheet: &[u8], run: Run, w: usize, near: bool) -> u64
 
 // The next store: word w of the run. Nothing else writes the image.
 pub(crate) fn next_store(image: &mut [u8], sheet: &[u8], run: Run, w: usize, near: bool)
-    requires { ⌜ Good (length (now image)) (length (now sheet)) run × ((w < run .words) × (near ≡ true → Near run w)) ⌝ }
-    ensures { λ _. ⌜ now (image .exit) ≡ stored (now (image .entry)) (placeOf run w) (leBytes 8 (wordOf (now (sheet .entry)) (now (image .entry)) run w)) ⌝ }
+    requires good { ⌜ Good (length (now image)) (length (now sheet)) run ⌝ }
+    requires word { ⌜ w < run .words ⌝ }
+    requires near { ⌜ (near ≡ true → Near run w) ⌝ }
+    ensures next { λ _. ⌜ now (image .exit)
+        ≡ stored (now (image .entry)) (placeOf run w) (leBytes 8 (wordOf (now (sheet .entry)) (now (image .entry)) run w)) ⌝ }
 {
     let v = word_at(image, sheet, run, w, near);
     put_word(image, place(run, w), v);
@@ -137,7 +156,8 @@ pub(crate) fn next_store(image: &mut [u8], sheet: &[u8], run: Run, w: usize, nea
 // How many of the first e words are near.
 fn near_count(run: Run, e: usize) -> usize
     requires { ⌜ run .from ≤ run .until ⌝ }
-    ensures { λ r. ⌜ (r ≤ e) × ((w : ℕ) → w < r → Near run w) ⌝ }
+    ensures bound { λ r. ⌜ r ≤ e ⌝ }
+    ensures near { λ r. ⌜ ((w : ℕ) → w < r → Near run w) ⌝ }
 {
     if run.kind == 2 {
         return e;
@@ -153,8 +173,9 @@ fn near_count(run: Run, e: usize) -> usize
 }
 
 // The n stores of a run from word w on.
-pub(crate) fn stores(image: &mut [u8], sheet: &[u8], run: Run, w: usize, n: usize)
-    requires { ⌜ Good (length (now image)) (length (now sheet)) run × (w + n ≤ run .words) ⌝ }
+pub fn stores(image: &mut [u8], sheet: &[u8], run: Run, w: usize, n: usize)
+    requires good { ⌜ Good (length (now image)) (length (now sheet)) run ⌝ }
+    requires words { ⌜ w + n ≤ run .words ⌝ }
     ensures { λ _. ⌜ now (image .exit) ≡ exec (now (sheet .entry)) (now (image .entry)) (stepsFrom run w n) ⌝ }
 {
     let e = w + n;

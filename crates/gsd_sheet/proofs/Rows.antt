@@ -20,7 +20,8 @@ use Rattle.gsd_format.proofs.Refusals.{both, first-of, stays, ▹-assoc, unmet,
 use Rattle.gsd_format.proofs.Ids.{index-at, index-least, index-is, places-distinct, distinct-twins, twin-twins}
 use Rattle.gsd_stores.specs.Sheet.{rowKind, nameSize, bodySize, badRow, badTable, bodiesEnd, rowCount, tableEnd, rowsOf, anyZero, mostRows, sheetTest}
 use Rattle.gsd_stores.specs.Demand3.{noRow}
-use Rattle.gsd_stores.proofs.Sheet.{start-first, start-next, start-rises, bodies-end, rowAt, nameAt, bodyAt, Exact, rows-count, row-at, name-inside, body-inside, name-length, name-zero}
+use Rattle.gsd_stores.specs.Sheet.{rowAt, nameAt, bodyAt, Exact}
+use Rattle.gsd_stores.proofs.Sheet.{start-first, start-next, start-rises, bodies-end, rows-count, row-at, name-inside, body-inside, name-length, name-zero}
 use Rattle.gsd_sheet.specs.declared.SheetRows.{SheetRows}
 use Rattle.gsd_sheet.specs.Rows.{tableTest, endTest, namesTest, sheetNames, nameOf, repeats, Filled, Located, Found}
 

@@ -8,8 +8,7 @@ use lib.Dec.{ltb, eqb}
 use Rattle.gsd_format.specs.Refusals.{_⇒_, _▹_}
 use Rattle.gsd_format.specs.Names.{indexOf}
 use Rattle.gsd_format.specs.Opening.{twins}
-use Rattle.gsd_stores.specs.Sheet.{badTable, bodiesEnd, rowCount, tableEnd, rowsOf, rowNames, anyZero, mostRows}
-use Rattle.gsd_stores.proofs.Sheet.{nameAt, bodyAt, Exact}
+use Rattle.gsd_stores.specs.Sheet.{badTable, bodiesEnd, rowCount, tableEnd, rowsOf, rowNames, anyZero, mostRows, nameAt, bodyAt, Exact}
 use Rattle.gsd_sheet.specs.declared.SheetRows.{SheetRows}
 
 -- the names of the rows, and that of row i

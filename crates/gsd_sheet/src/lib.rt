@@ -10,14 +10,19 @@ ghost use mathlib.Core.Path.{_≡_};
 ghost use Prim.Native.Nat.{_+_, _*_, _≤_, _<_, min};
 ghost use lib.ListN.{length};
 ghost use lib.Dec.{ltb};
-ghost use Rattle.gsd_format.specs.Bytes.{le, same};
+ghost use Rattle.gsd_format.specs.Bytes.{same};
 ghost use Rattle.gsd_format.specs.Types.{sizeOf};
 ghost use Rattle.gsd_format.specs.Opening.{twins};
-ghost use Rattle.gsd_stores.specs.Sheet.{rowKind, nameSize, bodySize, badRow, badTable, rowCount, tableEnd, anyZero, sheetTest};
-ghost use Rattle.gsd_stores.proofs.Sheet.{rowAt};
+ghost use Rattle.gsd_stores.specs.Sheet.{tableStart, rowSize, rowN, rowM, rowKind, nameSize, bodySize, badRow, badTable};
+ghost use Rattle.gsd_stores.specs.Sheet.{rowCount, tableEnd, anyZero, sheetTest, rowAt};
 ghost use Rattle.gsd_sheet.specs.Rows.{tableTest, endTest, namesTest, Located, Found, sheetNames, nameOf, repeats};
 
 const MOST_ROWS: usize = 64;
+
+// The table begins behind the count of rows.
+const TABLE_START: usize = 4;
+
+const ROW_SIZE: usize = 16;
 
 // Row i's name lies from names[i] to bodies[i], its data from bodies[i] to names[i + 1]. A refusal has no rows.
 pub struct SheetRows {
@@ -40,36 +45,40 @@ fn refused(number: u64) -> SheetRows
 
 // Row i of the table: N, M, type and name length.
 pub fn row_n(sheet: &[u8], i: usize) -> u64
-    requires { ⌜ rowAt i + 16 ≤ length (now sheet) ⌝ }
-    ensures { λ r. ⌜ r ≡ le 8 (now (sheet .entry)) (rowAt i) ⌝ }
+    requires { ⌜ rowAt i + rowSize ≤ length (now sheet) ⌝ }
+    ensures { λ r. ⌜ r ≡ rowN (now (sheet .entry)) (rowAt i) ⌝ }
 {
-    u64_at(sheet, 4 + 16 * i)
+    u64_at(sheet, TABLE_START + ROW_SIZE * i)
 }
 
+// Its M.
 pub fn row_m(sheet: &[u8], i: usize) -> u64
-    requires { ⌜ rowAt i + 16 ≤ length (now sheet) ⌝ }
-    ensures { λ r. ⌜ (r ≡ le 4 (now (sheet .entry)) (rowAt i + 8)) × (r < 4294967296) ⌝ }
+    requires { ⌜ rowAt i + rowSize ≤ length (now sheet) ⌝ }
+    ensures answer { λ r. ⌜ r ≡ rowM (now (sheet .entry)) (rowAt i) ⌝ }
+    ensures bound { λ r. ⌜ r < 4294967296 ⌝ }
 {
-    u32_at(sheet, 4 + 16 * i + 8)
+    u32_at(sheet, TABLE_START + ROW_SIZE * i + 8)
 }
 
+// Its type.
 pub fn row_kind(sheet: &[u8], i: usize) -> u8
-    requires { ⌜ rowAt i + 16 ≤ length (now sheet) ⌝ }
+    requires { ⌜ rowAt i + rowSize ≤ length (now sheet) ⌝ }
     ensures { λ r. ⌜ r ≡ rowKind (now (sheet .entry)) (rowAt i) ⌝ }
 {
-    sheet[4 + 16 * i + 12]
+    sheet[TABLE_START + ROW_SIZE * i + 12]
 }
 
 fn name_size(sheet: &[u8], i: usize) -> usize
-    requires { ⌜ rowAt i + 16 ≤ length (now sheet) ⌝ }
-    ensures { λ r. ⌜ (r ≡ nameSize (now (sheet .entry)) (rowAt i)) × (r < 256) ⌝ }
+    requires { ⌜ rowAt i + rowSize ≤ length (now sheet) ⌝ }
+    ensures answer { λ r. ⌜ r ≡ nameSize (now (sheet .entry)) (rowAt i) ⌝ }
+    ensures bound { λ r. ⌜ r < 256 ⌝ }
 {
-    wide(sheet[4 + 16 * i + 13]) as usize
+    wide(sheet[TABLE_START + ROW_SIZE * i + 13]) as usize
 }
 
 // 24
 fn bad_row(sheet: &[u8], i: usize) -> bool
-    requires { ⌜ rowAt i + 16 ≤ length (now sheet) ⌝ }
+    requires { ⌜ rowAt i + rowSize ≤ length (now sheet) ⌝ }
     ensures { λ r. ⌜ r ≡ badRow (now (sheet .entry)) (rowAt i) ⌝ }
 {
     if size_of(row_kind(sheet, i)) == 0 {
@@ -78,12 +87,12 @@ fn bad_row(sheet: &[u8], i: usize) -> bool
     if name_size(sheet, i) == 0 {
         return true;
     }
-    u16_at(sheet, 4 + 16 * i + 14) != 0
+    u16_at(sheet, TABLE_START + ROW_SIZE * i + 14) != 0
 }
 
 fn bad_table(sheet: &[u8], count: usize) -> bool
     requires { ⌜ rowAt count ≤ length (now sheet) ⌝ }
-    ensures { λ r. ⌜ r ≡ badTable (now (sheet .entry)) 4 count ⌝ }
+    ensures { λ r. ⌜ r ≡ badTable (now (sheet .entry)) tableStart count ⌝ }
 {
     let mut i = 0;
     while i < count {
@@ -109,7 +118,7 @@ fn table_number(sheet: &[u8]) -> u64
     if MOST_ROWS < count {
         return 22;
     }
-    if sheet.len() < 4 + 16 * count {
+    if sheet.len() < TABLE_START + ROW_SIZE * count {
         return 23;
     }
     if bad_table(sheet, count) {
@@ -120,8 +129,9 @@ fn table_number(sheet: &[u8]) -> u64
 
 // The bytes of M elements of row i.
 fn row_size(sheet: &[u8], i: usize) -> u64
-    requires { ⌜ rowAt i + 16 ≤ length (now sheet) ⌝ }
-    ensures { λ r. ⌜ (r ≡ le 4 (now (sheet .entry)) (rowAt i + 8) * sizeOf (rowKind (now (sheet .entry)) (rowAt i))) × (r < 34359738368) ⌝ }
+    requires { ⌜ rowAt i + rowSize ≤ length (now sheet) ⌝ }
+    ensures answer { λ r. ⌜ r ≡ rowM (now (sheet .entry)) (rowAt i) * sizeOf (rowKind (now (sheet .entry)) (rowAt i)) ⌝ }
+    ensures bound { λ r. ⌜ r < 34359738368 ⌝ }
 {
     row_m(sheet, i) * size_of(row_kind(sheet, i))
 }
@@ -142,7 +152,7 @@ fn exceeds(n: u64, each: u64, room: u64) -> bool
 
 // Where row i's data end if they begin at `body`; any place behind the sheet's end is sheet.len() + 1.
 fn body_end(sheet: &[u8], i: usize, body: usize) -> usize
-    requires { ⌜ rowAt i + 16 ≤ length (now sheet) ⌝ }
+    requires { ⌜ rowAt i + rowSize ≤ length (now sheet) ⌝ }
     ensures { λ r. ⌜ r ≡ min (body + bodySize (now (sheet .entry)) (rowAt i)) (length (now (sheet .entry)) + 1) ⌝ }
 {
     let len = sheet.len();
@@ -159,12 +169,14 @@ fn body_end(sheet: &[u8], i: usize, body: usize) -> usize
 
 // 25: the rows one behind the other, and the sheet's end behind the last.
 fn place_rows(sheet: &[u8], count: usize) -> SheetRows
-    requires { ⌜ (count ≡ rowCount (now sheet)) × (count ≤ 64) × (tableEnd (now sheet) ≤ length (now sheet)) ⌝ }
+    requires counted { ⌜ count ≡ rowCount (now sheet) ⌝ }
+    requires few { ⌜ count ≤ 64 ⌝ }
+    requires table { ⌜ tableEnd (now sheet) ≤ length (now sheet) ⌝ }
     ensures { λ r. ⌜ Found (now (sheet .entry)) (endTest (now (sheet .entry))) r ⌝ }
 {
     let mut names = [0usize; 65];
     let mut bodies = [0usize; 64];
-    let mut at = 4 + 16 * count;
+    let mut at = TABLE_START + ROW_SIZE * count;
     let mut i = 0;
     while i < count {
         let body = at + name_size(sheet, i);
@@ -196,7 +208,8 @@ fn zero_named<'a>(
     names: &'a [usize; 65],
     bodies: &'a [usize; 64],
 ) -> bool
-    requires { ⌜ Located (now sheet) (now names) (now bodies) × (count ≡ rowCount (now sheet)) ⌝ }
+    requires located { ⌜ Located (now sheet) (now names) (now bodies) ⌝ }
+    requires counted { ⌜ count ≡ rowCount (now sheet) ⌝ }
     ensures { λ r. ⌜ r ≡ anyZero (sheetNames (now (sheet .entry))) ⌝ }
 {
     let mut i = 0;
@@ -217,7 +230,9 @@ fn same_name<'a>(
     i: usize,
     j: usize,
 ) -> bool
-    requires { ⌜ Located (now sheet) (now names) (now bodies) × (i < rowCount (now sheet)) × (j < rowCount (now sheet)) ⌝ }
+    requires located { ⌜ Located (now sheet) (now names) (now bodies) ⌝ }
+    requires first { ⌜ i < rowCount (now sheet) ⌝ }
+    requires second { ⌜ j < rowCount (now sheet) ⌝ }
     ensures { λ r. ⌜ r ≡ same (nameOf (now (sheet .entry)) i) (nameOf (now (sheet .entry)) j) ⌝ }
 {
     let a = names[i];
@@ -231,7 +246,8 @@ fn same_name<'a>(
 
 // Has a row before row i the same name?
 fn repeated<'a>(sheet: &[u8], names: &'a [usize; 65], bodies: &'a [usize; 64], i: usize) -> bool
-    requires { ⌜ Located (now sheet) (now names) (now bodies) × (i < rowCount (now sheet)) ⌝ }
+    requires located { ⌜ Located (now sheet) (now names) (now bodies) ⌝ }
+    requires row { ⌜ i < rowCount (now sheet) ⌝ }
     ensures { λ r. ⌜ r ≡ repeats (sheetNames (now (sheet .entry))) i ⌝ }
 {
     let mut j = 0;
@@ -251,7 +267,8 @@ fn twin_named<'a>(
     names: &'a [usize; 65],
     bodies: &'a [usize; 64],
 ) -> bool
-    requires { ⌜ Located (now sheet) (now names) (now bodies) × (count ≡ rowCount (now sheet)) ⌝ }
+    requires located { ⌜ Located (now sheet) (now names) (now bodies) ⌝ }
+    requires counted { ⌜ count ≡ rowCount (now sheet) ⌝ }
     ensures { λ r. ⌜ r ≡ twins (sheetNames (now (sheet .entry))) ⌝ }
 {
     let mut i = 0;
@@ -270,7 +287,8 @@ fn names_number<'a>(
     names: &'a [usize; 65],
     bodies: &'a [usize; 64],
 ) -> u64
-    requires { ⌜ Located (now sheet) (now names) (now bodies) × (count ≡ rowCount (now sheet)) ⌝ }
+    requires located { ⌜ Located (now sheet) (now names) (now bodies) ⌝ }
+    requires counted { ⌜ count ≡ rowCount (now sheet) ⌝ }
     ensures { λ r. ⌜ r ≡ namesTest (now (sheet .entry)) ⌝ }
 {
     if zero_named(sheet, count, names, bodies) {
@@ -282,6 +300,7 @@ fn names_number<'a>(
     0
 }
 
+// 22 to 27, and where that is 0 where the rows' names and data lie.
 pub fn sheet_rows(sheet: &[u8]) -> SheetRows
     ensures { λ r. ⌜ Found (now (sheet .entry)) (sheetTest (now (sheet .entry))) r ⌝ }
 {

@@ -6,13 +6,13 @@ use native.Mathlib.Decide.{decLt}
 use native.Mathlib.Omega.{arith}
 use lib.ListN.{length, getD, List·getD-eq-default}
 use Rattle.gsd_format.specs.declared.Layout.{Layout}
-use Rattle.gsd_format.specs.Bytes.{part}
+use Rattle.gsd_format.specs.Bytes.{part, Apart}
 use Rattle.gsd_format.specs.Types.{chunkSize}
 use Rattle.gsd_format.specs.Header.{headerSize, layoutOf}
 use Rattle.gsd_format.specs.Names.{flat}
 use Rattle.gsd_format.specs.Lookup.{none}
 use Rattle.gsd_format.proofs.Lists.{Each}
-use Rattle.gsd_format.proofs.Bytes.{Same, Text, Apart, zero-le, part-length, part-at}
+use Rattle.gsd_format.proofs.Bytes.{Same, Text, zero-le, part-length, part-at}
 use Rattle.gsd_format.proofs.Names.{Named}
 use Rattle.gsd_format.proofs.Entries.{entries-kept}
 use Rattle.gsd_format.proofs.Verdict.{Sound, front-same}

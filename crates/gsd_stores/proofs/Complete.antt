@@ -9,12 +9,11 @@ use lib.ListN.{length, getD, length-append, List·getD-append}
 use lib.Seq.{getD-append-add}
 use Rattle.gsd_format.specs.declared.Entry.{Entry}
 use Rattle.gsd_format.specs.declared.Listed.{Listed}
-use Rattle.gsd_format.specs.Names.{indexOf}
+use Rattle.gsd_format.specs.Names.{indexOf, Has}
 use Rattle.gsd_format.specs.Entries.{framesOf}
 use Rattle.gsd_format.specs.Opening.{verdict}
 use Rattle.gsd_format.specs.Lookup.{none, lookup, lookupIn}
 use Rattle.gsd_format.proofs.Bytes.{Text}
-use Rattle.gsd_format.proofs.Ids.{Has}
 use Rattle.gsd_format.proofs.Entries.{ShortIds, frames-below, ordered-front}
 use Rattle.gsd_format.proofs.Lookup.{Stands, find-sound, find-ordered, look-entry, look-found, opened-lookup}
 use Rattle.gsd_stores.specs.View.{View}

@@ -10,12 +10,11 @@ use Rattle.gsd_format.specs.declared.Entry.{Entry}
 use Rattle.gsd_format.specs.declared.Listed.{Listed}
 use Rattle.gsd_format.specs.Bytes.{part}
 use Rattle.gsd_format.specs.Header.{layoutOf}
-use Rattle.gsd_format.specs.Names.{namesOf}
+use Rattle.gsd_format.specs.Names.{namesOf, Has}
 use Rattle.gsd_format.specs.Entries.{entriesOf}
 use Rattle.gsd_format.specs.Opening.{verdict}
 use Rattle.gsd_format.specs.Lookup.{lookup, lookupIn, chunkOf}
 use Rattle.gsd_format.specs.Answers.{listedNumber}
-use Rattle.gsd_format.proofs.Ids.{Has}
 use Rattle.gsd_format.proofs.Lookup.{opened-lookup, look-41, look-42, look-absent}
 use Rattle.gsd_stores.specs.Sheet.{Row}
 use Rattle.gsd_stores.specs.Runs.{frames}

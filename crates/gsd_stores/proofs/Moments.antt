@@ -9,7 +9,8 @@ use lib.Seq.{take-add, take-append-add, getD-append-add}
 use Rattle.gsd_format.specs.Entries.{framesOf}
 use Rattle.gsd_format.specs.Opening.{verdict, mostNames}
 use Rattle.gsd_format.specs.Lookup.{none}
-use Rattle.gsd_format.proofs.Ids.{Distinct, distinct-take}
+use Rattle.gsd_format.specs.Names.{Distinct}
+use Rattle.gsd_format.proofs.Ids.{distinct-take}
 use Rattle.gsd_format.proofs.Verdict.{sound-ids}
 use Rattle.gsd_stores.specs.View.{View, viewOf}
 use Rattle.gsd_stores.specs.Sheet.{Row, rowsOf}

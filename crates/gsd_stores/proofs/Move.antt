@@ -8,10 +8,10 @@ use mathlib.Core.List.{List}
 use native.Mathlib.Omega.{arith}
 use lib.ListN.{length, getD}
 use Rattle.gsd_format.specs.declared.Layout.{Layout}
-use Rattle.gsd_format.specs.Bytes.{le, leBytes, part}
+use Rattle.gsd_format.specs.Bytes.{le, leBytes, part, Apart}
 use Rattle.gsd_format.specs.Header.{layoutOf}
 use Rattle.gsd_format.specs.Names.{flat}
-use Rattle.gsd_format.proofs.Bytes.{Apart, le-same, le-text, leBytes-length, part-same}
+use Rattle.gsd_format.proofs.Bytes.{le-same, le-text, leBytes-length, part-same}
 use Rattle.gsd_stores.specs.Stores.{words, up}
 use Rattle.gsd_stores.specs.View.{View}
 use Rattle.gsd_stores.specs.Steps.{moved}

@@ -8,11 +8,11 @@ use native.Mathlib.Omega.{arith}
 use lib.ListN.{length, getD, length-append, List·getD-append}
 use lib.Seq.{getD-append-add}
 use Rattle.gsd_format.specs.declared.Entry.{Entry}
-use Rattle.gsd_format.specs.Bytes.{le, leBytes}
+use Rattle.gsd_format.specs.Bytes.{le, leBytes, Apart}
 use Rattle.gsd_format.specs.Header.{layoutOf}
 use Rattle.gsd_format.specs.Entries.{entryAt}
 use Rattle.gsd_format.specs.Lookup.{none}
-use Rattle.gsd_format.proofs.Bytes.{Same, Text, Apart, leBytes-length, le-text, zero-le}
+use Rattle.gsd_format.proofs.Bytes.{Same, Text, leBytes-length, le-text, zero-le}
 use Rattle.gsd_format.proofs.Texts.{text-head, text-front, text-back}
 use Rattle.gsd_format.proofs.Names.{names-kept}
 use Rattle.gsd_format.proofs.Entries.{Fits, entry-same, each-append, entries-grown}

@@ -10,7 +10,7 @@ use lib.ListN.{length, getD, take, length-append, List·getD-append, List·getD-
 use Rattle.gsd_format.specs.Header.{headerSize}
 use Rattle.gsd_format.specs.Names.{flat}
 use Rattle.gsd_format.proofs.Lists.{Each, each-append}
-use Rattle.gsd_format.proofs.Bytes.{Apart}
+use Rattle.gsd_format.specs.Bytes.{Apart}
 use Rattle.gsd_format.proofs.Names.{Named, flat-append, flat-size, flat-more}
 use Rattle.gsd_format.proofs.Verdict.{layout-same}
 use Rattle.gsd_stores.specs.View.{View, namesEnd, namelistEnd}

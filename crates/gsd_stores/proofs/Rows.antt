@@ -11,15 +11,15 @@ use lib.Seq.{take-suc, take-length, getD-append-add}
 use borrow.Author.Tests.{lt-ltb, le-ltb}
 use Rattle.gsd_format.specs.declared.Entry.{Entry}
 use Rattle.gsd_format.specs.Bytes.{part, zeros, roundUp}
-use Rattle.gsd_format.specs.Names.{indexOf}
+use Rattle.gsd_format.specs.Names.{indexOf, Has, Lacks, Distinct}
 use Rattle.gsd_format.specs.Lookup.{none}
 use Rattle.gsd_format.proofs.Lists.{Each, Any, each-at, at-each, at-any, map-each}
 use Rattle.gsd_format.proofs.Bytes.{Text}
 use Rattle.gsd_format.proofs.Texts.{text-part}
-use Rattle.gsd_format.proofs.Ids.{Has, Lacks, Distinct, index-here, index-on, index-inj, index-behind, distinct-append}
+use Rattle.gsd_format.proofs.Ids.{index-here, index-on, index-inj, index-behind, distinct-append}
 use Rattle.gsd_format.proofs.Ids.{has-any, any-has, has-front, has-back, lacks-each, each-lacks}
 use Rattle.gsd_stores.specs.Sheet.{Row, rowNames}
-use Rattle.gsd_stores.specs.Plan.{padded, bodies, newNames, newEntries}
+use Rattle.gsd_stores.specs.Plan.{padded, bodies, bodyOffset, newNames, newEntries}
 use Rattle.gsd_stores.specs.Demand3.{noRow}
 use Rattle.gsd_stores.proofs.Sorted.{Differing}
 
@@ -47,10 +47,6 @@ pub bodies-even : (rs : List Row) → length (bodies rs) % 8 ≡ 0
 unfolding bodies
 bodies-even [] = refl
 bodies-even (r ∷ rs) = omega (arith, bodies-length r rs, bodies-even rs)
-
--- where the i-th row's data lie among all data
-abbrev pub bodyOffset : List Row → ℕ → ℕ
-bodyOffset rs i = length (bodies (take i rs))
 
 pub offset-first : (rs : List Row) → bodyOffset rs 0 ≡ 0
 unfolding bodies

@@ -15,22 +15,14 @@ use Rattle.gsd_format.proofs.Lists.{Each, each-at, at-each, map-each, each-map}
 use Rattle.gsd_format.proofs.Refusals.{both, none-of, unmet, passed, neither, neither-of, not-of, not-less, less-no, no-differ, differ-no}
 use Rattle.gsd_format.proofs.Bytes.{Octets, Text, le-bound, part-length, no-zero, zero-out, zeroIn-same}
 use Rattle.gsd_format.proofs.Texts.{part-text}
-use Rattle.gsd_format.proofs.Ids.{Distinct, twins-distinct, distinct-twins}
+use Rattle.gsd_format.specs.Names.{Distinct}
+use Rattle.gsd_format.proofs.Ids.{twins-distinct, distinct-twins}
 use Rattle.gsd_format.proofs.Names.{Named, Full, part-named}
 use Rattle.gsd_stores.specs.Sheet.{Row, rowKind, nameSize, bodySize, badRow, badTable, bodiesEnd, rowsAt, rowCount, tableEnd}
-use Rattle.gsd_stores.specs.Sheet.{rowsOf, rowNames, anyZero, mostRows, sheetTest}
+use Rattle.gsd_stores.specs.Sheet.{rowPlace, startAt, rowsOf, rowAt, nameAt, bodyAt, Exact, rowNames, anyZero, mostRows, sheetTest}
 use Rattle.gsd_stores.specs.Demand3.{noRow}
 
 -- Places in the sheet
-
--- the i-th row of a table that begins at t
-abbrev pub rowPlace : ℕ → ℕ → ℕ
-rowPlace t i = t + 16 * i
-
--- where the i-th name begins, if the table begins at t and the first name at q
-unfoldable pub startAt : List ℕ → ℕ → ℕ → ℕ → ℕ
-startAt s t q zero = q
-startAt s t q (suc i) = startAt s t q i + nameSize s (rowPlace t i) + bodySize s (rowPlace t i)
 
 pub start-first : (s : List ℕ) (t q : ℕ) → startAt s t q 0 ≡ q
 unfolding startAt
@@ -82,20 +74,6 @@ rows-at (suc n) s t q (suc i) l =
     rows-at n s (t + 16) (q + nameSize s t + bodySize s t) i (omega arith) ∙ λ j. rowFrom s (e j) (f j)
 
 -- The rows of a sheet
-
--- where the i-th row of the table, its name and its data begin
-abbrev pub rowAt : ℕ → ℕ
-rowAt i = rowPlace 4 i
-
-abbrev pub nameAt : List ℕ → ℕ → ℕ
-nameAt s i = startAt s 4 (tableEnd s) i
-
-abbrev pub bodyAt : List ℕ → ℕ → ℕ
-bodyAt s i = nameAt s i + nameSize s (rowAt i)
-
--- 25: the data end where the sheet ends
-abbrev pub Exact : List ℕ → Type 0
-Exact s = length s ≡ nameAt s (rowCount s)
 
 pub rows-count : (s : List ℕ) → length (rowsOf s) ≡ rowCount s
 unfolding rowsOf

@@ -9,12 +9,12 @@ use Rattle.gsd_format.specs.declared.Entry.{Entry}
 use Rattle.gsd_format.specs.Bytes.{part}
 use Rattle.gsd_format.specs.Types.{chunkSize}
 use Rattle.gsd_format.specs.Header.{layoutOf}
-use Rattle.gsd_format.specs.Names.{namesOf, indexOf}
+use Rattle.gsd_format.specs.Names.{namesOf, indexOf, Distinct}
 use Rattle.gsd_format.specs.Entries.{entriesOf, framesOf}
 use Rattle.gsd_format.specs.Opening.{verdict, mostNames}
 use Rattle.gsd_format.specs.Lookup.{none, lookup, lookupIn, chunkOf}
 use Rattle.gsd_format.proofs.Bytes.{Same, same-from, part-same}
-use Rattle.gsd_format.proofs.Ids.{Distinct, index-append, index-back, has-front}
+use Rattle.gsd_format.proofs.Ids.{index-append, index-back, has-front}
 use Rattle.gsd_format.proofs.Names.{names-pass, pass-names, namesOf-are, zero-closed}
 use Rattle.gsd_format.proofs.Entries.{Ordered, image-entries}
 use Rattle.gsd_format.proofs.Verdict.{Opens, verdict-zero}

@@ -10,29 +10,28 @@ use lib.Dec.{eqb}
 use borrow.Author.Tests.{eqb-true, not-false}
 use Rattle.gsd_format.specs.declared.Entry.{Entry}
 use Rattle.gsd_format.specs.declared.Layout.{Layout}
-use Rattle.gsd_format.specs.Bytes.{part}
+use Rattle.gsd_format.specs.Bytes.{part, Apart}
 use Rattle.gsd_format.specs.Types.{sizeOf, chunkSize}
 use Rattle.gsd_format.specs.Header.{greatestLength, layoutOf}
-use Rattle.gsd_format.specs.Names.{namesOf}
+use Rattle.gsd_format.specs.Names.{namesOf, Distinct}
 use Rattle.gsd_format.specs.Entries.{entriesOf, key, framesFrom, framesOf}
-use Rattle.gsd_format.specs.Opening.{verdict, mostNames}
+use Rattle.gsd_format.specs.Opening.{verdict, mostNames, Blocks}
 use Rattle.gsd_format.specs.Lookup.{none, chunkOf}
 use Rattle.gsd_format.proofs.Lists.{Each, each-at, at-each, each-append}
 use Rattle.gsd_format.proofs.Refusals.{both, unmet, neither, not-less}
-use Rattle.gsd_format.proofs.Bytes.{Octets, Text, Apart}
+use Rattle.gsd_format.proofs.Bytes.{Octets, Text}
 use Rattle.gsd_format.proofs.Texts.{text-part}
-use Rattle.gsd_format.proofs.Ids.{Distinct}
 use Rattle.gsd_format.proofs.Names.{Named, names-pass}
 use Rattle.gsd_format.proofs.Entries.{Fits, Ordered, ShortIds, entries-is, frames-none, frames-more, frames-grown, frames-last, ordered-append}
-use Rattle.gsd_format.proofs.Verdict.{Blocks, Sound, AllSound, Opens, verdict-zero, sound-ids}
+use Rattle.gsd_format.proofs.Verdict.{Sound, AllSound, Opens, verdict-zero, sound-ids}
 use Rattle.gsd_stores.specs.Sheet.{Row, rowsOf, rowNames, mostRows}
 use Rattle.gsd_stores.specs.View.{View, viewOf}
-use Rattle.gsd_stores.specs.Plan.{Plan, newNames, planOf, dataEnd, namesDone, finalPosition}
-use Rattle.gsd_stores.specs.Append.{planTest, appendTest}
+use Rattle.gsd_stores.specs.Plan.{Plan, newNames, planOf, dataEnd, namesDone, finalPosition, bodyOffset}
+use Rattle.gsd_stores.specs.Append.{imageTest, planTest, appendTest}
 use Rattle.gsd_stores.specs.Demand3.{noRow}
 use Rattle.gsd_stores.proofs.Sheet.{Accepted, RowsOk, accepted, rows-count, rows-ok}
 use Rattle.gsd_stores.proofs.Sorted.{Rising, sorted-rising, rising-ordered}
-use Rattle.gsd_stores.proofs.Rows.{bodyOffset, body-text, offset-even, offset-inside, new-names, new-each, all-has, all-distinct, new-differing}
+use Rattle.gsd_stores.proofs.Rows.{body-text, offset-even, offset-inside, new-names, new-each, all-has, all-distinct, new-differing}
 use Rattle.gsd_stores.proofs.Plan.{layoutAfter, entriesAfter, namesAfter, rowEntries, rowEntry, Planned, chosen, planned, positions}
 use Rattle.gsd_stores.proofs.Plan.{body-even, entries-count, entry-row}
 
@@ -47,6 +46,13 @@ pub record Valid (x : List ℕ) (rs : List Row) : Type 0 where
   pub fewNames : length (viewOf x .names) + length (newNames (viewOf x .names) rs) ≤ mostNames
   pub fits : finalPosition (planOf (viewOf x) rs) ≤ viewOf x .layout .len
 
+-- 21: both blocks lie at words
+image-even : (l : Layout) → imageTest l ≡ 0 → (l .index % 8 ≡ 0) × (l .namelist % 8 ≡ 0)
+unfolding imageTest
+image-even l h =
+    let even = neither (not (eqb (l .index % 8) 0)) (not (eqb (l .namelist % 8) 0)) (unmet _ _ h) in
+    (eqb-true _ _ (not-false _ (even .0)), eqb-true _ _ (not-false _ (even .1)))
+
 pub valid : (x s : List ℕ) → Octets s → appendTest x s ≡ 0 → Valid x (rowsOf s)
 unfolding appendTest planTest
 valid x s o h =
@@ -54,13 +60,12 @@ valid x s o h =
     let from21 = both _ _ (from1 .1) in
     let from22 = both _ _ (from21 .1) in
     let from28 = both _ _ (from22 .1) in
-    let even : ((not (eqb (viewOf x .layout .index % 8) 0) ≡ false) × (not (eqb (viewOf x .layout .namelist % 8) 0) ≡ false)) =
-    neither _ _ (unmet _ _ (from21 .0)) in
+    let even = image-even (viewOf x .layout) (from21 .0) in
     let ok : Accepted s = accepted s (from22 .0) in
     record {
       opens = from1 .0;
-      evenIndex = eqb-true _ _ (not-false _ (even .0));
-      evenNames = eqb-true _ _ (not-false _ (even .1));
+      evenIndex = even .0;
+      evenNames = even .1;
       some = omega (arith, rows-count s, ok .some);
       few = omega (arith, rows-count s, ok .few);
       rows = rows-ok s o ok;

@@ -9,16 +9,17 @@ use native.Mathlib.Omega.{arith}
 use lib.ListN.{length, getD}
 use Rattle.gsd_format.specs.declared.Entry.{Entry}
 use Rattle.gsd_format.specs.declared.Layout.{Layout}
-use Rattle.gsd_format.specs.Bytes.{le}
+use Rattle.gsd_format.specs.Bytes.{le, Apart}
 use Rattle.gsd_format.specs.Types.{chunkSize}
 use Rattle.gsd_format.specs.Header.{headerSize, layoutOf}
-use Rattle.gsd_format.specs.Names.{flat, nameParts, namesOf}
+use Rattle.gsd_format.specs.Names.{flat, nameParts, namesOf, namesAt}
 use Rattle.gsd_format.specs.Entries.{entriesAt, entriesOf}
 use Rattle.gsd_format.specs.Lookup.{none}
-use Rattle.gsd_format.proofs.Bytes.{Same, Text, Apart, le-same}
-use Rattle.gsd_format.proofs.Names.{IsNames, namesAt, names-is, names-kept}
+use Rattle.gsd_format.proofs.Bytes.{Same, Text, le-same}
+use Rattle.gsd_format.proofs.Names.{IsNames, names-is, names-kept}
 use Rattle.gsd_format.proofs.Entries.{IsEntries, is-entries, entries-kept}
-use Rattle.gsd_format.proofs.Verdict.{Front, Blocks, AllSound, layout-same, front-same}
+use Rattle.gsd_format.specs.Opening.{Blocks}
+use Rattle.gsd_format.proofs.Verdict.{Front, AllSound, layout-same, front-same}
 use Rattle.gsd_stores.specs.Stores.{words, up}
 use Rattle.gsd_stores.specs.View.{View, viewOf, indexEnd, namelistEnd, entriesEnd, namesEnd}
 use Rattle.gsd_stores.proofs.Stores.{Over, between, over-off}

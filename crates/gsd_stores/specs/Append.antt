@@ -4,25 +4,34 @@ use mathlib.Core.List.{List, []}
 use mathlib.Core.Bool.{not, _||_}
 use lib.ListN.{length, take}
 use lib.Dec.{ltb, eqb}
+use Rattle.gsd_format.specs.declared.Layout.{Layout}
 use Rattle.gsd_format.specs.Refusals.{_⇒_, _▹_}
 use Rattle.gsd_format.specs.Opening.{verdict, mostNames}
 use Rattle.gsd_stores.specs.declared.Appended.{Appended}
 use Rattle.gsd_stores.specs.Sheet.{sheetTest, rowsOf}
-use Rattle.gsd_stores.specs.Stores.{Store, after}
+use Rattle.gsd_stores.specs.Stores.{Store, wordSize, after}
 use Rattle.gsd_stores.specs.View.{viewOf}
 use Rattle.gsd_stores.specs.Plan.{planOf, newNames, finalPosition}
 use Rattle.gsd_stores.specs.Steps.{storeList}
+
+-- 21: the append's test of an image that opens
+unfoldable pub imageTest : Layout → ℕ
+imageTest l = not (eqb (l .index % wordSize) 0) || not (eqb (l .namelist % wordSize) 0) ⇒ 21
+
+-- 29: what is planned ends in the image
+abbrev pub roomTest : List ℕ → List ℕ → ℕ
+roomTest img sheet = ltb (viewOf img .layout .len) (finalPosition (planOf (viewOf img) (rowsOf sheet))) ⇒ 29
 
 -- 28 and 29: what the plan needs of the image
 unfoldable pub planTest : List ℕ → List ℕ → ℕ
 planTest img sheet =
     (ltb mostNames (length (viewOf img .names) + length (newNames (viewOf img .names) (rowsOf sheet))) ⇒ 28)
-    ▹ (ltb (viewOf img .layout .len) (finalPosition (planOf (viewOf img) (rowsOf sheet))) ⇒ 29)
+    ▹ roomTest img sheet
 
 unfoldable pub appendTest : List ℕ → List ℕ → ℕ
 appendTest img sheet =
     verdict img
-    ▹ (not (eqb (viewOf img .layout .index % 8) 0) || not (eqb (viewOf img .layout .namelist % 8) 0) ⇒ 21)
+    ▹ imageTest (viewOf img .layout)
     ▹ sheetTest sheet
     ▹ planTest img sheet
 

@@ -9,7 +9,7 @@ use lib.ListN.{getD, length}
 use Rattle.gsd_format.specs.declared.Entry.{Entry}
 use Rattle.gsd_format.specs.declared.Listed.{Listed}
 use Rattle.gsd_format.specs.Bytes.{part}
-use Rattle.gsd_format.specs.Header.{layoutOf}
+use Rattle.gsd_format.specs.Header.{slotSize, layoutOf}
 use Rattle.gsd_format.specs.Entries.{entriesOf}
 use Rattle.gsd_format.specs.Opening.{verdict}
 use Rattle.gsd_format.specs.Lookup.{lookup, chunkOf}
@@ -53,7 +53,7 @@ pub record Demand3 (x : List ℕ) (cs : List Call) : Type 0 where
       lookup m frame name ≡ Listed.Found e → chunkOf n e ≡ chunkOf m e
   -- the same entry is the same in all 32 bytes
   pub bytes : {m n : List ℕ} → Follows x cs m n → (i : ℕ) → i < length (entriesOf m) →
-      part n (layoutOf n .index + 32 * i) 32 ≡ part m (layoutOf m .index + 32 * i) 32
+      part n (layoutOf n .index + slotSize * i) slotSize ≡ part m (layoutOf m .index + slotSize * i) slotSize
   -- older frame: any number below the number of frames at that moment. Nothing appears there; a new name may turn 41 into
   -- 42, and nothing turns 42 into 41
   pub absent : {m n : List ℕ} → Follows x cs m n → (frame : ℕ) (name : List ℕ) → frame < frames m → Absent m frame name → Absent n frame name

@@ -2,10 +2,11 @@
 use Prim.Native.Nat.{ℕ, zero, suc, _+_, _*_, _-_, _/_, max}
 use mathlib.Core.List.{List, [], _∷_, _++_}
 use mathlib.Core.Bool.{Bool, true, false, cond}
-use lib.ListN.{length}
+use lib.ListN.{length, take}
 use lib.Dec.{ltb, leb}
 use Rattle.gsd_format.specs.declared.Entry.{Entry}
 use Rattle.gsd_format.specs.Bytes.{zeros, roundUp}
+use Rattle.gsd_format.specs.Header.{slotSize, segmentSize}
 use Rattle.gsd_format.specs.Names.{flat, indexOf}
 use Rattle.gsd_format.specs.Entries.{framesOf}
 use Rattle.gsd_stores.specs.Sheet.{Row}
@@ -34,6 +35,10 @@ padded b = b ++ zeros (roundUp alignment (length b) - length b)
 unfoldable pub bodies : List Row → List ℕ
 bodies [] = []
 bodies (r ∷ rs) = padded (r .body) ++ bodies rs
+
+-- where the i-th row's data lie among all data
+abbrev pub bodyOffset : List Row → ℕ → ℕ
+bodyOffset rs i = length (bodies (take i rs))
 
 unfoldable pub newNames : List (List ℕ) → List Row → List (List ℕ)
 newNames names [] = []
@@ -74,8 +79,8 @@ planOf v rs =
       start = endOfUse v;
       body = bodies rs;
       fresh = fresh;
-      namesMove = ltb (64 * v .layout .segments) nameBytes;
-      segments = grown ((nameBytes + 63) / 64) (v .layout .segments);
+      namesMove = ltb (segmentSize * v .layout .segments) nameBytes;
+      segments = grown ((nameBytes + (segmentSize - 1)) / segmentSize) (v .layout .segments);
       indexMoves = ltb (v .layout .slots) count;
       slots = grown count (v .layout .slots);
       entries = entries;
@@ -86,7 +91,7 @@ abbrev pub dataEnd : Plan → ℕ
 dataEnd p = p .start + length (p .body)
 
 abbrev pub namesDone : Plan → ℕ
-namesDone p = cond (p .namesMove) (dataEnd p + 64 * p .segments) (dataEnd p)
+namesDone p = cond (p .namesMove) (dataEnd p + segmentSize * p .segments) (dataEnd p)
 
 abbrev pub finalPosition : Plan → ℕ
-finalPosition p = cond (p .indexMoves) (namesDone p + 32 * p .slots) (namesDone p)
+finalPosition p = cond (p .indexMoves) (namesDone p + slotSize * p .slots) (namesDone p)

@@ -1,5 +1,6 @@
 -- The append sheet: a u32 count, 16 bytes for each row, then each row's name and data with nothing between; numbers 22 to 27.
 use Prim.Native.Nat.{ℕ, zero, suc, _+_, _*_}
+use mathlib.Core.Path.{_≡_}
 use mathlib.Core.List.{List, [], _∷_, map}
 use mathlib.Core.Bool.{Bool, false, not, _||_}
 use lib.ListN.{getD, length}
@@ -17,44 +18,83 @@ pub record Row : Type 0 where
   pub kind : ℕ
   pub body : List ℕ
 
--- A row of the table lies at a place t: N at 0, M at 8, type at 12, name length at 13, two zero bytes at 14
+-- the table begins behind the count, and a row of it has so many bytes
+abbrev pub tableStart : ℕ
+tableStart = 4
+
+abbrev pub rowSize : ℕ
+rowSize = 16
+
+-- A row of the table lies at a place t: N at 0, M at 8, type at 12, name length at 13, two spare bytes at 14
+abbrev pub rowN : List ℕ → ℕ → ℕ
+rowN s t = le 8 s t
+
+abbrev pub rowM : List ℕ → ℕ → ℕ
+rowM s t = le 4 s (t + 8)
+
 abbrev pub rowKind : List ℕ → ℕ → ℕ
 rowKind s t = getD s (t + 12) 0
 
 abbrev pub nameSize : List ℕ → ℕ → ℕ
 nameSize s t = getD s (t + 13) 0
 
+abbrev pub rowSpare : List ℕ → ℕ → ℕ
+rowSpare s t = le 2 s (t + 14)
+
 unfoldable pub bodySize : List ℕ → ℕ → ℕ
-bodySize s t = le 8 s t * le 4 s (t + 8) * sizeOf (rowKind s t)
+bodySize s t = rowN s t * rowM s t * sizeOf (rowKind s t)
 
 abbrev pub badRow : List ℕ → ℕ → Bool
-badRow s t = not (known (rowKind s t)) || eqb (nameSize s t) 0 || not (eqb (le 2 s (t + 14)) 0)
+badRow s t = not (known (rowKind s t)) || eqb (nameSize s t) 0 || not (eqb (rowSpare s t) 0)
 
 -- is one of the n rows from t bad?
 unfoldable pub badTable : List ℕ → ℕ → ℕ → Bool
 badTable s t zero = false
-badTable s t (suc n) = badRow s t || badTable s (t + 16) n
+badTable s t (suc n) = badRow s t || badTable s (t + rowSize) n
 
 -- where the bodies of the n rows from t end, if the first of them begins at q
 unfoldable pub bodiesEnd : List ℕ → ℕ → ℕ → ℕ → ℕ
 bodiesEnd s t q zero = q
-bodiesEnd s t q (suc n) = bodiesEnd s (t + 16) (q + nameSize s t + bodySize s t) n
+bodiesEnd s t q (suc n) = bodiesEnd s (t + rowSize) (q + nameSize s t + bodySize s t) n
 
 unfoldable pub rowsAt : List ℕ → ℕ → ℕ → ℕ → List Row
 rowsAt s t q zero = []
 rowsAt s t q (suc n) =
-    record { name = part s q (nameSize s t); n = le 8 s t; m = le 4 s (t + 8); kind = rowKind s t; body = part s (q + nameSize s t) (bodySize s t) }
-    ∷ rowsAt s (t + 16) (q + nameSize s t + bodySize s t) n
+    record { name = part s q (nameSize s t); n = rowN s t; m = rowM s t; kind = rowKind s t; body = part s (q + nameSize s t) (bodySize s t) }
+    ∷ rowsAt s (t + rowSize) (q + nameSize s t + bodySize s t) n
 
 abbrev pub rowCount : List ℕ → ℕ
 rowCount s = le 4 s 0
 
 -- the end of the table, where the first body begins
 abbrev pub tableEnd : List ℕ → ℕ
-tableEnd s = 4 + 16 * rowCount s
+tableEnd s = tableStart + rowSize * rowCount s
 
 unfoldable pub rowsOf : List ℕ → List Row
-rowsOf s = rowsAt s 4 (tableEnd s) (rowCount s)
+rowsOf s = rowsAt s tableStart (tableEnd s) (rowCount s)
+
+-- the i-th row of a table that begins at t
+abbrev pub rowPlace : ℕ → ℕ → ℕ
+rowPlace t i = t + rowSize * i
+
+-- where the i-th name begins, if the table begins at t and the first name at q
+unfoldable pub startAt : List ℕ → ℕ → ℕ → ℕ → ℕ
+startAt s t q zero = q
+startAt s t q (suc i) = startAt s t q i + nameSize s (rowPlace t i) + bodySize s (rowPlace t i)
+
+-- where the i-th row of the table, its name and its data begin
+abbrev pub rowAt : ℕ → ℕ
+rowAt i = rowPlace tableStart i
+
+abbrev pub nameAt : List ℕ → ℕ → ℕ
+nameAt s i = startAt s tableStart (tableEnd s) i
+
+abbrev pub bodyAt : List ℕ → ℕ → ℕ
+bodyAt s i = nameAt s i + nameSize s (rowAt i)
+
+-- the data end where the sheet ends
+abbrev pub Exact : List ℕ → Type 0
+Exact s = length s ≡ nameAt s (rowCount s)
 
 abbrev pub rowNames : List Row → List (List ℕ)
 rowNames rs = map (λ r. r .name) rs
@@ -70,9 +110,9 @@ mostRows = 64
 
 unfoldable pub sheetTest : List ℕ → ℕ
 sheetTest s =
-    (ltb (length s) 4 || eqb (rowCount s) 0 || ltb mostRows (rowCount s) ⇒ 22)
+    (ltb (length s) tableStart || eqb (rowCount s) 0 || ltb mostRows (rowCount s) ⇒ 22)
     ▹ (ltb (length s) (tableEnd s) ⇒ 23)
-    ▹ (badTable s 4 (rowCount s) ⇒ 24)
-    ▹ (not (eqb (length s) (bodiesEnd s 4 (tableEnd s) (rowCount s))) ⇒ 25)
+    ▹ (badTable s tableStart (rowCount s) ⇒ 24)
+    ▹ (not (eqb (length s) (bodiesEnd s tableStart (tableEnd s) (rowCount s))) ⇒ 25)
     ▹ (anyZero (rowNames (rowsOf s)) ⇒ 26)
     ▹ (twins (rowNames (rowsOf s)) ⇒ 27)

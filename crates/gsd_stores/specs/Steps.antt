@@ -5,42 +5,50 @@ use mathlib.Core.Bool.{Bool, true, false, cond}
 use lib.ListN.{length}
 use Rattle.gsd_format.specs.declared.Entry.{Entry}
 use Rattle.gsd_format.specs.Bytes.{leBytes, part}
+use Rattle.gsd_format.specs.Header.{indexPlace, namelistPlace, slotSize}
 use Rattle.gsd_format.specs.Names.{flat}
-use Rattle.gsd_stores.specs.Stores.{Store, words, up, down, slotsDown}
+use Rattle.gsd_stores.specs.Stores.{Store, wordSize, words, up, down, slotsDown}
 use Rattle.gsd_stores.specs.View.{View, viewOf, entriesEnd, namesEnd, namelistEnd}
 use Rattle.gsd_stores.specs.Sheet.{Row}
 use Rattle.gsd_stores.specs.Plan.{Plan, planOf, dataEnd, namesDone}
 
+-- the words of a slot, and of a segment
+abbrev pub slotWords : ℕ
+slotWords = 4
+
+abbrev pub segmentWords : ℕ
+segmentWords = 8
+
 -- 1. Clear, upwards, every word of the index slots behind the list,
 unfoldable pub clearIndex : View → List Store
-clearIndex v = words [] 0 (up (entriesEnd v) (4 * (v .layout .slots - length (v .entries))))
+clearIndex v = words [] 0 (up (entriesEnd v) (slotWords * (v .layout .slots - length (v .entries))))
 
 -- then every word of the name block from the one holding the list's end, keeping name bytes before it.
 unfoldable pub clearNames : View → List Store
 clearNames v =
-    let first : ℕ = namesEnd v / 8 * 8 in
-    words (flat (v .names)) (v .layout .namelist) (up first ((namelistEnd (v .layout) - first) / 8))
+    let first : ℕ = namesEnd v / wordSize * wordSize in
+    words (flat (v .names)) (v .layout .namelist) (up first ((namelistEnd (v .layout) - first) / wordSize))
 
 -- 2. Data, row by row, from the end of use, upwards, each row padded with zeros.
 unfoldable pub storeData : Plan → List Store
-storeData p = words (p .body) (p .start) (up (p .start) (length (p .body) / 8))
+storeData p = words (p .body) (p .start) (up (p .start) (length (p .body) / wordSize))
 
 -- A block moves to b: all its n words upwards, the old text and then zeros; then its header word at h, then the next
 -- one, with its new count.
 unfoldable pub moved : Bool → ℕ → ℕ → List ℕ → ℕ → ℕ → List Store
 moved false b n text h count = []
-moved true b n text h count = words text b (up b n) ++ words (leBytes 8 b) h (up h 1) ++ words (leBytes 8 count) (h + 8) (up (h + 8) 1)
+moved true b n text h count = words text b (up b n) ++ words (leBytes 8 b) h (up h 1) ++ words (leBytes 8 count) (h + wordSize) (up (h + wordSize) 1)
 
 -- 3. If the new names don't fit: a new name block at the current position.
 unfoldable pub moveNames : View → Plan → List Store
-moveNames v p = moved (p .namesMove) (dataEnd p) (8 * p .segments) (flat (v .names)) 24 (p .segments)
+moveNames v p = moved (p .namesMove) (dataEnd p) (segmentWords * p .segments) (flat (v .names)) namelistPlace (p .segments)
 
 -- 4. New names in row order, each from the highest word that holds one of its own bytes to the lowest. A word holds
 -- the names before it and no byte of a name behind it; the closing zero is already there.
 unfoldable pub storeName : ℕ → List ℕ → List ℕ → List Store
 storeName block before name =
     let first : ℕ = block + length before in
-    words (before ++ name) block (down (first / 8 * 8) ((first + length name - 1) / 8 - first / 8 + 1))
+    words (before ++ name) block (down (first / wordSize * wordSize) ((first + length name - 1) / wordSize - first / wordSize + 1))
 
 unfoldable pub storeNames : ℕ → List (List ℕ) → List (List ℕ) → List Store
 storeNames block names [] = []
@@ -49,7 +57,7 @@ storeNames block names (b ∷ bs) = storeName block (flat names) b ++ storeNames
 -- 5. If free slots are too few: a new index block in the same way, the old entries byte for byte.
 unfoldable pub moveIndex : List ℕ → View → Plan → List Store
 moveIndex img v p =
-    moved (p .indexMoves) (namesDone p) (4 * p .slots) (part img (v .layout .index) (32 * length (v .entries))) 8 (p .slots)
+    moved (p .indexMoves) (namesDone p) (slotWords * p .slots) (part img (v .layout .index) (slotSize * length (v .entries))) indexPlace (p .slots)
 
 unfoldable pub entryBytes : Entry → List ℕ
 entryBytes e = leBytes 8 (e .frame) ++ leBytes 8 (e .n) ++ leBytes 8 (e .location) ++ leBytes 4 (e .m) ++ leBytes 2 (e .id) ++ e .kind ∷ e .flags ∷ []
@@ -77,7 +85,7 @@ stepsOf img v p =
     ++ moveNames v p
     ++ storeNames (nameBlock v p) (v .names) (p .fresh)
     ++ moveIndex img v p
-    ++ storeEntries (indexBlock v p + 32 * length (v .entries)) (p .entries)
+    ++ storeEntries (indexBlock v p + slotSize * length (v .entries)) (p .entries)
 
 -- the whole list of stores
 unfoldable pub storeList : List ℕ → List Row → List Store

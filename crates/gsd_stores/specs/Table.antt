@@ -77,7 +77,11 @@ table =
     record { says = "a fresh image: end of use 384, 0 frames"; got = endIn x ∷ shown x; expected = 384 ∷ 0 ∷ 0 ∷ 0 ∷ 0 ∷ [] }
     ∷ record { says = "383 bytes: 52"; got = createdIn 383 ∷ []; expected = 52 ∷ [] }
     ∷ record { says = "384: made"; got = createdIn 384 ∷ shown (freshIn 384); expected = 0 ∷ 0 ∷ 0 ∷ 0 ∷ 0 ∷ [] }
-    ∷ record { says = "sheet A, 37 bytes: 8 + 8 + 2 + 1 + 4 = 23 stores"; got = length sheetA ∷ stepCounts x sheetA; expected = 37 ∷ 8 ∷ 8 ∷ 2 ∷ 0 ∷ 1 ∷ 0 ∷ 4 ∷ 23 ∷ [] }
+    ∷ record {
+      says = "sheet A, 37 bytes: 8 + 8 + 2 + 1 + 4 = 23 stores";
+      got = length sheetA ∷ stepCounts x sheetA;
+      expected = 37 ∷ 8 ∷ 8 ∷ 2 ∷ 0 ∷ 1 ∷ 0 ∷ 4 ∷ 23 ∷ [];
+    }
     ∷ record { says = "after 22: 0 frames, 1 name"; got = shown a22; expected = 0 ∷ 0 ∷ 1 ∷ 0 ∷ [] }
     ∷ record {
       says = "after 23: 1 frame, location 384, end of use 400, and what the program prints";
@@ -94,7 +98,11 @@ table =
       got = layoutOf b34 .index ∷ layoutOf b34 .slots ∷ shown b34;
       expected = 424 ∷ 2 ∷ 0 ∷ 1 ∷ 2 ∷ 1 ∷ [];
     }
-    ∷ record { says = "in a slice of 552 it fits"; got = appendTest a552 sheetB ∷ shown (appended a552 sheetB 43); expected = 0 ∷ 0 ∷ 2 ∷ 2 ∷ 3 ∷ [] }
+    ∷ record {
+      says = "in a slice of 552 it fits";
+      got = appendTest a552 sheetB ∷ shown (appended a552 sheetB 43);
+      expected = 0 ∷ 0 ∷ 2 ∷ 2 ∷ 3 ∷ [];
+    }
     ∷ record { says = "in 551: 29"; got = appendTest a551 sheetB ∷ []; expected = 29 ∷ [] }
     ∷ record { says = "frame 0, heater, after B: 42"; got = listedNumber (lookup b 0 (ascii "heater")) ∷ []; expected = 42 ∷ [] }
     ∷ record { says = "frame 2: 40"; got = listedNumber (lookup b 2 (ascii "probe")) ∷ []; expected = 40 ∷ [] }

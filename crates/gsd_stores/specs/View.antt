@@ -5,7 +5,7 @@ use lib.ListN.{length}
 use Rattle.gsd_format.specs.declared.Entry.{Entry}
 use Rattle.gsd_format.specs.declared.Layout.{Layout}
 use Rattle.gsd_format.specs.Bytes.{roundUp}
-use Rattle.gsd_format.specs.Header.{headerSize, layoutOf}
+use Rattle.gsd_format.specs.Header.{headerSize, slotSize, segmentSize, layoutOf}
 use Rattle.gsd_format.specs.Names.{namesOf, flat}
 use Rattle.gsd_format.specs.Entries.{entriesOf, chunksEnd}
 
@@ -19,13 +19,13 @@ viewOf img = record { layout = layoutOf img; entries = entriesOf img; names = na
 
 -- where the two blocks end, and where the two lists end
 abbrev pub indexEnd : Layout → ℕ
-indexEnd l = l .index + 32 * l .slots
+indexEnd l = l .index + slotSize * l .slots
 
 abbrev pub namelistEnd : Layout → ℕ
-namelistEnd l = l .namelist + 64 * l .segments
+namelistEnd l = l .namelist + segmentSize * l .segments
 
 abbrev pub entriesEnd : View → ℕ
-entriesEnd v = v .layout .index + 32 * length (v .entries)
+entriesEnd v = v .layout .index + slotSize * length (v .entries)
 
 abbrev pub namesEnd : View → ℕ
 namesEnd v = v .layout .namelist + length (flat (v .names))

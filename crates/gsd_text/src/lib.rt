@@ -16,8 +16,10 @@ pub struct Line {
     pub size: usize,
 }
 
+// The line of an entry.
 pub fn entry_line(e: Entry) -> Line
-    ensures { λ r. ⌜ (r .size ≤ 128) × (take (r .size) (r .bytes) ≡ entryLine e) ⌝ }
+    ensures bound { λ r. ⌜ r .size ≤ 128 ⌝ }
+    ensures text { λ r. ⌜ take (r .size) (r .bytes) ≡ entryLine e ⌝ }
 {
     let mut bytes = [0u8; 128];
     let numbers = [e.id as u64, e.kind as u64, e.n, e.m as u64, e.location];
@@ -29,7 +31,8 @@ pub fn entry_line(e: Entry) -> Line
 // The bytes in front of `at`, and a newline.
 fn ended(bytes: [u8; 128], at: usize) -> Line
     requires { ⌜ at < 128 ⌝ }
-    ensures { λ r. ⌜ (r .size ≤ 128) × (take (r .size) (r .bytes) ≡ take at bytes ++ ascii "\n") ⌝ }
+    ensures bound { λ r. ⌜ r .size ≤ 128 ⌝ }
+    ensures text { λ r. ⌜ take (r .size) (r .bytes) ≡ take at bytes ++ ascii "\n" ⌝ }
 {
     let mut bytes = bytes;
     bytes[at] = b'\n';
@@ -39,8 +42,10 @@ fn ended(bytes: [u8; 128], at: usize) -> Line
     }
 }
 
+// The line of an image that opens.
 pub fn counts_line(frames: u64, names: u64, entries: u64) -> Line
-    ensures { λ r. ⌜ (r .size ≤ 128) × (take (r .size) (r .bytes) ≡ countsLine frames names entries) ⌝ }
+    ensures bound { λ r. ⌜ r .size ≤ 128 ⌝ }
+    ensures text { λ r. ⌜ take (r .size) (r .bytes) ≡ countsLine frames names entries ⌝ }
 {
     let mut bytes = [0u8; 128];
     let at = put::labelled(&mut bytes, 0, b"frames ", frames);
@@ -49,8 +54,10 @@ pub fn counts_line(frames: u64, names: u64, entries: u64) -> Line
     ended(bytes, at)
 }
 
+// The line of one that is refused.
 pub fn refused_line(number: u64) -> Line
-    ensures { λ r. ⌜ (r .size ≤ 128) × (take (r .size) (r .bytes) ≡ ascii "refused" ++ fields (number ∷ [])) ⌝ }
+    ensures bound { λ r. ⌜ r .size ≤ 128 ⌝ }
+    ensures text { λ r. ⌜ take (r .size) (r .bytes) ≡ ascii "refused" ++ fields (number ∷ []) ⌝ }
 {
     let mut bytes = [0u8; 128];
     let at = put::labelled(&mut bytes, 0, b"refused ", number);

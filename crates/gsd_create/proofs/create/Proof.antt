@@ -32,7 +32,7 @@ lay-out-requires c κs =
     let slots = c .before .before .before .before .or-default .result in
     let segments = c .before .before .before .or-default2 .result in
     let t = takes (length (x .image .now)) (x .application .now) (x .schema .now) slots segments (sym (c .before .before .create-test .ensures) ∙ c .before .if1 .left) in
-    ((t .short-application, t .short-schema), (t .few-slots, t .few-segments, t .room))
+    (t .short-application, (t .short-schema, (t .few-slots, (t .few-segments, t .room))))
 
 same-length : tie.Need-same-length
 same-length c = search needs

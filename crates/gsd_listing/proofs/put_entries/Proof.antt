@@ -24,18 +24,18 @@ loop-holds c = (search needs, search needs, search needs, refl)
 
 mul-entry-at : tie.Need-mul-entry-at Inv-loop μ-loop
 mul-entry-at c =
-    let good = c .before .before .before .before .pre .0 in
-    omega (arith, good .1, slot-within _ (good .0) (c .before .loop .i) (omega (arith, good .2)))
+    let good = c .before .before .before .before .pre in
+    omega (arith, good .1 .0, slot-within _ (good .0) (c .before .loop .i) (omega (arith, good .1 .1 .0)))
 
 add-entry-at : tie.Need-add-entry-at Inv-loop μ-loop
 add-entry-at c =
-    let good = c .before .before .before .before .pre .0 in
-    omega (arith, good .1, slot-within _ (good .0) (c .before .loop .i) (omega (arith, good .2)))
+    let good = c .before .before .before .before .pre in
+    omega (arith, good .1 .0, slot-within _ (good .0) (c .before .loop .i) (omega (arith, good .1 .1 .0)))
 
 entry-at-requires : tie.Need-entry-at-requires Inv-loop μ-loop
 entry-at-requires c κs =
-    let good = c .before .before .before .before .pre .0 in
-    omega (arith, good .1, slot-within _ (good .0) (c .before .loop .i) (omega (arith, good .2)))
+    let good = c .before .before .before .before .pre in
+    omega (arith, good .1 .0, slot-within _ (good .0) (c .before .loop .i) (omega (arith, good .1 .1 .0)))
 
 entry-line-requires : tie.Need-entry-line-requires Inv-loop μ-loop
 entry-line-requires c κs = tt
@@ -58,10 +58,10 @@ loop-again c =
     let p = c .before .before .put-line in
     let img = s .args .image .now in
     let es = entriesOf img in
-    let few : l .i < length es = omega (arith, s .pre .0 .2) in
+    let few : l .i < length es = omega (arith, s .pre .1 .1 .0) in
     let made = c .before .before .before .entry-line in
     let text = take (made .result .size) (made .result .bytes) in
-    let entry = c .before .before .before .before .before .entry-at .ensures ∙ slot-entry img (s .pre .0 .0) (l .i) few _ (omega (arith, s .pre .0 .1)) in
+    let entry = c .before .before .before .before .before .entry-at .ensures ∙ slot-entry img (s .pre .0) (l .i) few _ (omega (arith, s .pre .1 .0)) in
     let line = made .ensures .1 ∙ ap entryLine entry in (
       search needs,
       p .kept .0 ∙ l .inv .1,
@@ -76,7 +76,7 @@ returns : tie.Need-returns Inv-loop μ-loop
 returns c =
     let s = c .before .before .before .before in
     let l = c .before .loop in
-    let none = lines-last (entriesOf (s .args .image .now)) (l .i) (omega (arith, s .pre .0 .2)) in
+    let none = lines-last (entriesOf (s .args .image .now)) (l .i) (omega (arith, s .pre .1 .1 .0)) in
     (sym (append-nil (take (l .to) (l .out))) ∙ rw none at (l .inv .3), omega (arith, l .inv .2))
 
 pub put-entries-spec : {M : Type 1} → statement M

@@ -44,8 +44,11 @@ put-entries-requires c κs =
     let good = c .before .before .before .before .before .before .if1 .left in
     let verdict = opens img _ _ told good in
     let first = c .before .before .before .put-line2 in (
-      (verdict, index-there img _ _ told good, told .entries good),
-      omega (arith, told .entries good, entries-within img verdict, first .kept .0, first .ensures .1),
+      verdict,
+      (
+        index-there img _ _ told good,
+        (told .entries good, omega (arith, told .entries good, entries-within img verdict, first .kept .0, first .ensures .1)),
+      ),
     )
 
 same-length-2 : tie.Need-same-length-2

@@ -1,7 +1,7 @@
 -- `gsd_sheet::bad_row` meets its contract.
 use mathlib.Core.Path.{sym, _∙_}
 use borrow.Author.Needs.{needs}
-use Rattle.gsd_stores.proofs.Sheet.{rowAt}
+use Rattle.gsd_stores.specs.Sheet.{rowAt}
 use Rattle.gsd_sheet.proofs.Rows.{kind-size, bad-kind, bad-name, bad-spare}
 use Rattle.gsd_sheet.proofs.bad_row.Statement.{statement}
 use Rattle.gsd_sheet.proofs.bad_row.Tie as tie

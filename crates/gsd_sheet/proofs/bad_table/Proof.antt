@@ -5,8 +5,7 @@ use mathlib.Core.Bool.{true, false}
 use native.Mathlib.Nat.{sub-zero}
 use native.Mathlib.Omega.{arith}
 use borrow.Author.Needs.{needs}
-use Rattle.gsd_stores.specs.Sheet.{badRow, badTable}
-use Rattle.gsd_stores.proofs.Sheet.{rowAt}
+use Rattle.gsd_stores.specs.Sheet.{badRow, badTable, rowAt}
 use Rattle.gsd_sheet.proofs.Rows.{bad-next, bad-none}
 use Rattle.gsd_sheet.proofs.bad_table.Statement.{statement}
 use Rattle.gsd_sheet.proofs.bad_table.Tie as tie

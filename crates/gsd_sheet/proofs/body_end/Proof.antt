@@ -4,8 +4,7 @@ use mathlib.Core.Path.{_≡_, sym, _∙_}
 use native.Mathlib.Omega.{arith}
 use borrow.Author.Tests.{ltb-true, ltb-false}
 use borrow.Author.Needs.{needs}
-use Rattle.gsd_stores.specs.Sheet.{bodySize}
-use Rattle.gsd_stores.proofs.Sheet.{rowAt}
+use Rattle.gsd_stores.specs.Sheet.{bodySize, rowAt}
 use Rattle.gsd_sheet.proofs.Rows.{body-product}
 use Rattle.gsd_sheet.proofs.body_end.Statement.{statement}
 use Rattle.gsd_sheet.proofs.body_end.Tie as tie

@@ -4,8 +4,7 @@ use mathlib.Core.Path.{_≡_, sym, _∙_, ap}
 use native.Mathlib.Omega.{arith}
 use lib.ListN.{length}
 use borrow.Author.Needs.{needs}
-use Rattle.gsd_stores.specs.Sheet.{rowCount}
-use Rattle.gsd_stores.proofs.Sheet.{nameAt, Exact}
+use Rattle.gsd_stores.specs.Sheet.{rowCount, nameAt, Exact}
 use Rattle.gsd_sheet.specs.Rows.{endTest}
 use Rattle.gsd_sheet.proofs.Rows.{name-first, exact-end, other-end, name-next, late-end, filled-none, filled-to, filled-more, Placed, refused-found}
 use Rattle.gsd_sheet.proofs.place_rows.Statement.{statement}

@@ -2,7 +2,7 @@
 use Prim.Native.Nat.{_*_, _<_}
 use native.Mathlib.Omega.{arith}
 use borrow.Author.Needs.{needs}
-use Rattle.gsd_stores.proofs.Sheet.{rowAt}
+use Rattle.gsd_stores.specs.Sheet.{rowAt}
 use Rattle.gsd_sheet.proofs.Rows.{kind-size, size-bound}
 use Rattle.gsd_sheet.proofs.row_size.Statement.{statement}
 use Rattle.gsd_sheet.proofs.row_size.Tie as tie

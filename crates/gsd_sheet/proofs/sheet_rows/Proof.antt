@@ -27,7 +27,7 @@ u32-at-requires c κs = tabled (c .before .before .before .args .sheet .now) (sy
 place-rows-requires : tie.Need-place-rows-requires
 place-rows-requires c κs =
     let t : Tabled (c .before .before .before .before .args .sheet .now) = tabled _ (sym (c .before .before .table-number .ensures) ∙ c .before .if1 .left) in
-    (c .u32-at .ensures .0, omega arith, t .whole)
+    (c .u32-at .ensures .0, (omega arith, t .whole))
 
 returns-2 : tie.Need-returns-2
 returns-2 c =

@@ -20,7 +20,7 @@ add-place-names c = omega (arith, block-small (c .before .before .before .before
 place-names-requires : tie.Need-place-names-requires
 place-names-requires c κs =
     let start = c .before .before .before .before in
-    (start .pre .fewNew, block-small (start .pre) _ (c .before .before .chosen .ensures), start .pre .rows, start .pre .name, start .pre .short)
+    (start .pre .fewNew, (block-small (start .pre) _ (c .before .before .chosen .ensures), (start .pre .rows, (start .pre .name, start .pre .short))))
 
 fill-entries-requires : tie.Need-fill-entries-requires
 fill-entries-requires c κs = search needs

@@ -18,13 +18,13 @@ returns c =
 room-number-requires : tie.Need-room-number-requires
 room-number-requires c κs =
     let start = c .before .before in
-    (start .pre .0, start .pre .1, fields-place _ _ _ (start .args .e) (sym (c .before .fields-number .ensures) ∙ c .if1 .left), start .pre .3 .fits)
+    (start .pre .0, (start .pre .1 .0, (fields-place _ _ _ (start .args .e) (sym (c .before .fields-number .ensures) ∙ c .if1 .left), start .pre .1 .1 .1 .fits)))
 
 returns-2 : tie.Need-returns-2
 returns-2 c =
     let start = c .before .before .before in
     let good = sym (c .before .before .fields-number .ensures) ∙ c .before .if1 .left in
-    let capped = room-capped _ _ _ _ (start .pre .1) (start .pre .3) in
+    let capped = room-capped _ _ _ _ (start .pre .1 .0) (start .pre .1 .1 .1) in
     sym (entry-split _ _ _ _ (start .args .e) ∙ first-of _ _ good ∙ capped ∙ sym (c .room-number .ensures))
 
 pub entry-number-spec : {M : Type 1} → statement M

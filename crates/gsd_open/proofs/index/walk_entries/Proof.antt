@@ -30,7 +30,11 @@ chunk-bytes-requires : tie.Need-chunk-bytes-requires Inv-loop μ-loop
 chunk-bytes-requires c κs = search needs
 
 entry-number-requires : tie.Need-entry-number-requires Inv-loop μ-loop
-entry-number-requires c κs = search needs
+entry-number-requires c κs =
+    let turn = c .before .before .before in
+    let start = turn .before .before .before .before .pre in
+    let inv = turn .before .before .loop .inv in
+    (start .0, (start .1 .0, (omega (arith, inv .0, inv .2, start .0 .indexHigh, start .1 .0), c .chunk-bytes .ensures)))
 
 key-of-requires : tie.Need-key-of-requires Inv-loop μ-loop
 key-of-requires c κs =
@@ -81,7 +85,7 @@ loop-again c =
     let zero = sym (passed .before .entry-number .ensures) ∙ passed .if2 .left in
     let good = entry-zero _ _ _ _ e .0 zero in
     let whole = passed .before .before .chunk-bytes .ensures .exact (omega (arith, good .0 .within, loop .before .before .pre)) in
-    let end = c .greater .ensures ∙ ap (λ k. max (loop .loop .end) (e .location + k)) whole in
+    let end = c .greater .ensures ∙ ap (λ k. max (loop .loop .chunks-end) (e .location + k)) whole in
     let rest = rest-more _ _ (l .slots - i) (l .slots - (i + 1)) e (omega arith) (turn .entry-at .ensures) (passed .before .before .before .if1 .left) in (
       omega arith,
       omega (arith, loop .loop .inv .1),

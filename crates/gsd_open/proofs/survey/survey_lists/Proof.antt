@@ -29,7 +29,7 @@ returns c =
 walk-entries-requires : tie.Need-walk-entries-requires
 walk-entries-requires c κs =
     let laid = c .before .before .before .before .before .before .pre .0 in
-    (laid-blocks _ _ laid, omega (arith, laid-length _ _ laid, laid-short _ _ laid), sym (laid-length _ _ laid))
+    (laid-blocks _ _ laid, (omega (arith, laid-length _ _ laid, laid-short _ _ laid), sym (laid-length _ _ laid)))
 
 returns-2 : tie.Need-returns-2
 returns-2 c =

@@ -25,7 +25,7 @@ element-copy-out-packed c = search needs
 row-n-requires : tie.Need-row-n-requires Inv-loop μ-loop
 row-n-requires c κs =
     let start = c .before .before .before .before in
-    omega (arith, start .pre .1, start .pre .2 (c .before .before .loop .s) (c .before .loop-test .taken))
+    omega (arith, start .pre .1 .0, start .pre .1 .1 .0 (c .before .before .loop .s) (c .before .loop-test .taken))
 
 mul-n : tie.Need-mul-n Inv-loop μ-loop
 mul-n c = search needs
@@ -38,7 +38,7 @@ meta-of-requires c κs =
     let loop-test = c .before .before .loop-test in
     let loop = c .before .before .before .loop in
     let start = c .before .before .before .before .before in
-    (omega (arith, start .pre .1, start .pre .2 (loop .s) (loop-test .taken)), start .pre .3 (loop .s) (loop-test .taken))
+    (omega (arith, start .pre .1 .0, start .pre .1 .1 .0 (loop .s) (loop-test .taken)), start .pre .1 .1 .1 (loop .s) (loop-test .taken))
 
 mul-meta : tie.Need-mul-meta Inv-loop μ-loop
 mul-meta c = search needs

@@ -23,16 +23,16 @@ element-copy-out-row : tie.Need-element-copy-out-row Inv-loop μ-loop
 element-copy-out-row c = search needs
 
 mul-name : tie.Need-mul-name Inv-loop μ-loop
-mul-name c = omega (arith, c .before .before .before .pre .2 (c .before .before .loop .j) (c .before .loop-test .taken))
+mul-name c = omega (arith, c .before .before .before .pre .1 .1 .0 (c .before .before .loop .j) (c .before .loop-test .taken))
 
 element-copy-out-name : tie.Need-element-copy-out-name Inv-loop μ-loop
-element-copy-out-name c = omega (arith, c .before .before .before .pre .2 (c .before .before .loop .j) (c .before .loop-test .taken))
+element-copy-out-name c = omega (arith, c .before .before .before .pre .1 .1 .0 (c .before .before .loop .j) (c .before .loop-test .taken))
 
 mul-end : tie.Need-mul-end Inv-loop μ-loop
-mul-end c = omega (arith, c .before .before .before .before .pre .2 (c .before .before .before .loop .j) (c .before .before .loop-test .taken))
+mul-end c = omega (arith, c .before .before .before .before .pre .1 .1 .0 (c .before .before .before .loop .j) (c .before .before .loop-test .taken))
 
 element-copy-out-end : tie.Need-element-copy-out-end Inv-loop μ-loop
-element-copy-out-end c = c .before .before .before .before .pre .2 (c .before .before .before .loop .j) (c .before .before .loop-test .taken)
+element-copy-out-end c = c .before .before .before .before .pre .1 .1 .0 (c .before .before .before .loop .j) (c .before .before .loop-test .taken)
 
 mul-at : tie.Need-mul-at Inv-loop μ-loop
 mul-at c = search needs
@@ -53,21 +53,21 @@ array-write-until : tie.Need-array-write-until Inv-loop μ-loop
 array-write-until c = search needs
 
 sub-next : tie.Need-sub-next Inv-loop μ-loop
-sub-next c = c .before .before .before .before .before .pre .3 (c .before .before .before .before .loop .j) (c .before .before .before .loop-test .taken)
+sub-next c = c .before .before .before .before .before .pre .1 .1 .1 .0 (c .before .before .before .before .loop .j) (c .before .before .before .loop-test .taken)
 
 add-next : tie.Need-add-next Inv-loop μ-loop
 add-next c =
     let loop-test = c .before .before .before .loop-test in
     let loop = c .before .before .before .before .loop in
     let start = c .before .before .before .before .before in
-    omega (arith, start .pre .3 (loop .j) (loop-test .taken), start .pre .4 (loop .j) (loop-test .taken), loop .inv .here, name-small (start .args .names .now) (start .args .bodies .now) (start .args .rows .now) (start .args .fresh) (start .pre .4) (loop .j) (omega arith), start .pre .0)
+    omega (arith, start .pre .1 .1 .1 .0 (loop .j) (loop-test .taken), start .pre .1 .1 .1 .1 (loop .j) (loop-test .taken), loop .inv .here, name-small (start .args .names .now) (start .args .bodies .now) (start .args .rows .now) (start .args .fresh) (start .pre .1 .1 .1 .1) (loop .j) (omega arith), start .pre .0)
 
 add-next-2 : tie.Need-add-next-2 Inv-loop μ-loop
 add-next-2 c =
     let loop-test = c .before .before .before .loop-test in
     let loop = c .before .before .before .before .loop in
     let start = c .before .before .before .before .before in
-    omega (arith, start .pre .3 (loop .j) (loop-test .taken), start .pre .4 (loop .j) (loop-test .taken), loop .inv .here, name-small (start .args .names .now) (start .args .bodies .now) (start .args .rows .now) (start .args .fresh) (start .pre .4) (loop .j) (omega arith), start .pre .0)
+    omega (arith, start .pre .1 .1 .1 .0 (loop .j) (loop-test .taken), start .pre .1 .1 .1 .1 (loop .j) (loop-test .taken), loop .inv .here, name-small (start .args .names .now) (start .args .bodies .now) (start .args .rows .now) (start .args .fresh) (start .pre .1 .1 .1 .1) (loop .j) (omega arith), start .pre .0)
 
 add-j : tie.Need-add-j Inv-loop μ-loop
 add-j c = search needs

@@ -6,7 +6,7 @@ use lib.ListN.{getD, length}
 use borrow.Author.Needs.{needs}
 use Rattle.gsd_stores.specs.Sheet.{rowsOf}
 use Rattle.gsd_stores.proofs.Sheet.{rows-count}
-use Rattle.gsd_open.specs.NameLists.{namesIn}
+use Rattle.gsd_names.specs.NameLists.{namesIn}
 use Rattle.gsd_parts.proofs.RowIds.{Listing, listing-none, count-in, row-listed, row-new, listing-all}
 use Rattle.gsd_sheet.proofs.Rows.{located-room, located-end}
 use Rattle.gsd_parts.proofs.ids.find_ids.Statement.{statement}

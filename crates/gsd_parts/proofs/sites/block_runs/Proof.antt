@@ -34,7 +34,7 @@ add-number-run : tie.Need-add-number-run
 add-number-run c = search needs
 
 sub-number-run : tie.Need-sub-number-run
-sub-number-run c = c .before .before .pre .3 (not-false (c .before .before .args .moves) (c .before .if1 .left))
+sub-number-run c = c .before .before .pre .1 .1 .1 (not-false (c .before .before .args .moves) (c .before .if1 .left))
 
 number-run-requires-5 : tie.Need-number-run-requires-5
 number-run-requires-5 c κs = search needs

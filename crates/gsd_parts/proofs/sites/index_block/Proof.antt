@@ -17,7 +17,7 @@ mul-block-runs-2 : tie.Need-mul-block-runs-2
 mul-block-runs-2 c = search needs
 
 block-runs-requires : tie.Need-block-runs-requires
-block-runs-requires c κs = (omega (arith, c .pre .1), omega (arith, c .pre .0), omega arith, λ e. omega (arith, c .pre .3 e))
+block-runs-requires c κs = (omega (arith, c .pre .1 .0), (omega (arith, c .pre .0), (omega arith, λ e. omega (arith, c .pre .1 .1 .1 e))))
 
 returns : tie.Need-returns
 returns c = search needs

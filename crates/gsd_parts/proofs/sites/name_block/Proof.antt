@@ -14,7 +14,7 @@ mul-block-runs : tie.Need-mul-block-runs
 mul-block-runs c = search needs
 
 block-runs-requires : tie.Need-block-runs-requires
-block-runs-requires c κs = (omega (arith, c .pre .2), omega (arith, c .pre .0), omega arith, λ e. omega (arith, c .pre .4 e))
+block-runs-requires c κs = (omega (arith, c .pre .1 .1 .0), (omega (arith, c .pre .0), (omega arith, λ e. omega (arith, c .pre .1 .1 .1 .1 e))))
 
 returns : tie.Need-returns
 returns c = search needs

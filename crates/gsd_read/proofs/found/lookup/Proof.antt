@@ -37,7 +37,7 @@ find-entry-requires : tie.Need-find-entry-requires
 find-entry-requires c κs =
     let good = c .before .before .before .before .before in
     let told = good .before .before .survey-of .ensures in
-    (opens _ _ _ told (good .if1 .left), index-there _ _ _ told (good .if1 .left), told .entries (good .if1 .left))
+    (opens _ _ _ told (good .if1 .left), (index-there _ _ _ told (good .if1 .left), told .entries (good .if1 .left)))
 
 returns-4 : tie.Need-returns-4
 returns-4 c =

@@ -1,0 +1,22 @@
+-- A NaN's pattern reads as the one NaN, any other as its float.
+use lib.Ieee.{binary64, ofBits, div}
+use borrow.Author.Needs.{needs}
+use Rattle.gsd_elements.proofs.Floats.{nan-of, no-nan}
+use Rattle.gsd_elements.proofs.double.Statement.{statement}
+use Rattle.gsd_elements.proofs.double.Tie as tie
+
+nan64-requires : tie.Need-nan64-requires
+nan64-requires c κs = search needs
+
+returns : tie.Need-returns
+unfolding div ofBits
+returns c = nan-of binary64 _ _ (c .before .nan64 .ensures) (c .if1 .taken)
+
+float-from-bits-result : tie.Need-float-from-bits-result
+float-from-bits-result c = no-nan binary64 _ _ (c .before .nan64 .ensures) (c .if1 .left)
+
+returns-2 : tie.Need-returns-2
+returns-2 c = search needs
+
+pub double-spec : {M : Type 1} → statement M
+double-spec = tie.close (tie.spec nan64-requires returns float-from-bits-result returns-2)

@@ -1,0 +1,12 @@
+-- A pattern above infinity's, but for the sign.
+use mathlib.Core.Path.{sym}
+use lib.Ieee.{binary32}
+use lib.Ieee.Bits.{nanBits-above}
+use Rattle.gsd_elements.proofs.nan32.Statement.{statement}
+use Rattle.gsd_elements.proofs.nan32.Tie as tie
+
+returns : tie.Need-returns
+returns c = sym (nanBits-above binary32 (c .args .bits))
+
+pub nan32-spec : {M : Type 1} → statement M
+nan32-spec = tie.close (tie.spec returns)

@@ -1,0 +1,12 @@
+-- A pattern above infinity's, but for the sign.
+use mathlib.Core.Path.{sym}
+use lib.Ieee.{binary64}
+use lib.Ieee.Bits.{nanBits-above}
+use Rattle.gsd_elements.proofs.nan64.Statement.{statement}
+use Rattle.gsd_elements.proofs.nan64.Tie as tie
+
+returns : tie.Need-returns
+returns c = sym (nanBits-above binary64 (c .args .bits))
+
+pub nan64-spec : {M : Type 1} → statement M
+nan64-spec = tie.close (tie.spec returns)

@@ -1,0 +1,2 @@
+-- What the elements of a chunk are read by.
+pub mod Held

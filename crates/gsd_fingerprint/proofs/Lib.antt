@@ -1,0 +1,2 @@
+-- Laws of the fingerprint.
+pub mod Lanes

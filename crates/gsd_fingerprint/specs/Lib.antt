@@ -1,0 +1,2 @@
+-- The fingerprint of a text.
+pub mod Fingerprint

@@ -1,0 +1,3 @@
+-- The name list as code keeps it, and prints of its names.
+pub mod NameLists
+pub mod NamePrints
