@@ -1,101 +1,80 @@
-// The calls, each answered by one number.
-use crate::build::chunk;
-use gsd_format::Element;
-use gsd_format::Entry;
-use gsd_format::Listed;
-use gsd_format::Opening;
-use gsd_format::Place;
+// What a table asks of an image.
+use crate::make::part;
+use crate::words;
+use dialmoth::dialmoth_chunk;
+use dialmoth::dialmoth_element;
+use dialmoth::dialmoth_entry;
+use dialmoth::dialmoth_lookup;
+use dialmoth::dialmoth_name;
+use dialmoth::dialmoth_open;
+use std::num::wrapping_add_u64;
 
-// The refusal's number, or 0.
-
-pub fn opening(image: &[u8; 4096]) -> u64 {
-    match gsd_read::open(image) {
-        Opening::Open(_) => 0,
-        Opening::Refused(number) => number,
+// The number of a call that reads; its values go to the array that is as long as they are many.
+pub fn ask(
+    k: usize,
+    a: u64,
+    b: u64,
+    name: &[u8],
+    image: &[u8],
+    two: &mut [u64; 2],
+    three: &mut [u64; 3],
+    seven: &mut [u64; 7],
+) -> u64 {
+    match k {
+        words::OPEN => dialmoth_open(image, three),
+        words::NAME => dialmoth_name(image, b, two),
+        words::CHUNK => dialmoth_chunk(image, a, name, two),
+        words::ELEMENT => dialmoth_element(image, a, name, b, two),
+        words::ENTRY => dialmoth_entry(image, b, seven),
+        words::LOOKUP => dialmoth_lookup(image, a, name, seven),
+        _ => 0,
     }
 }
 
-pub fn lookup(image: &[u8; 4096], frame: u64, name: &[u8]) -> u64 {
-    match gsd_read::lookup(image, frame, name) {
-        Listed::Found(_) => 0,
-        Listed::Refused(number) => number,
+fn greater(a: u64, b: u64) -> u64 {
+    if a < b {
+        return b;
     }
+    a
 }
 
-pub fn element(image: &[u8; 4096], name: &[u8], k: u64) -> u64 {
-    match gsd_read::element(image, 0, name, k) {
-        Element::Refused(number) => number,
-        Element::Unsigned(_) => 0,
-        Element::Signed(_) => 0,
-        Element::Single { value, bits } => 0,
-        Element::Double { value, bits } => 0,
-    }
+// The blocks of an image that opens are short.
+fn end_of_use(image: &[u8]) -> u64 {
+    let mut starts = [0u32; gsd_names::PLACES];
+    let s = gsd_open::survey_of(image, &mut starts);
+    let index = wrapping_add_u64(s.layout.index, 32 * (s.layout.slots % 65536));
+    let names = wrapping_add_u64(s.layout.namelist, 64 * (s.layout.segments % 65536));
+    let end = greater(256, greater(s.chunks_end, greater(index, names)));
+    wrapping_add_u64(end, 7) / 8 * 8
 }
 
-// What is answered, or 0.
-
-pub fn names(image: &[u8; 4096]) -> u64 {
-    match gsd_read::open(image) {
-        Opening::Open(counts) => counts.names,
-        Opening::Refused(_) => 0,
+fn word_at(image: &[u8; 8192], at: u64) -> u64 {
+    if 8184 < at {
+        return 18446744073709551615;
     }
+    gsd_bytes::u64_at(image, at as usize)
 }
 
-pub fn entries(image: &[u8; 4096]) -> u64 {
-    match gsd_read::open(image) {
-        Opening::Open(counts) => counts.entries,
-        Opening::Refused(_) => 0,
-    }
+fn has(image: &[u8], at: u64, text: &[u8]) -> u64 {
+    let to = wrapping_add_u64(at, text.len() as u64);
+    check::same(part(image, 65536 * (at % 65536) + to % 65536), text) as u64
 }
 
-pub fn name_size(image: &[u8; 4096], n: u64) -> u64 {
-    match gsd_read::name(image, n) {
-        Place::At(part) => part.size as u64,
-        Place::Refused(_) => 0,
+// What stands in an image.
+pub fn look(
+    k: usize,
+    a: u64,
+    b: u64,
+    text: &[u8],
+    image: &[u8; 8192],
+    kept: &[u8; 8192],
+    len: u64,
+) -> u64 {
+    match k {
+        words::END => end_of_use(part(image, len)),
+        words::WORD_AT => word_at(image, b),
+        words::HAS => has(image, a, text),
+        words::SAME => check::same(image, kept) as u64,
+        _ => 0,
     }
-}
-
-pub fn float_bits(image: &[u8; 4096], name: &[u8], k: u64) -> u64 {
-    match gsd_read::element(image, 0, name, k) {
-        Element::Refused(_) => 0,
-        Element::Unsigned(_) => 0,
-        Element::Signed(_) => 0,
-        Element::Single { value, bits } => bits as u64,
-        Element::Double { value, bits } => 0,
-    }
-}
-
-pub fn nth_entry(image: &[u8; 4096], n: u64) -> Entry {
-    match gsd_read::entry(image, n) {
-        Listed::Found(e) => e,
-        Listed::Refused(_) => chunk(0, 0, 0, 0),
-    }
-}
-
-// What stands in the image.
-
-pub fn word(image: &[u8; 4096], at: usize) -> u64 {
-    if 4088 < at {
-        return 0;
-    }
-    gsd_bytes::u64_at(image, at)
-}
-
-// 1 where the text stands there, 1 where two images differ, else 0.
-
-pub fn has(image: &[u8; 4096], at: usize, text: &[u8]) -> u64 {
-    if 4096 < at {
-        return 0;
-    }
-    if 4096 - at < text.len() {
-        return 0;
-    }
-    gsd_bytes::same_part(image, at, text, 0, text.len()) as u64
-}
-
-pub fn changed(before: &[u8; 4096], after: &[u8; 4096]) -> u64 {
-    if gsd_bytes::same_part(before, 0, after, 0, 4096) {
-        return 0;
-    }
-    1
 }

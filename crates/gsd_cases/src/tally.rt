@@ -1,59 +1,182 @@
-// The cases so far, and how many of their answers are not the expected ones.
+// Answers compared, counted and printed.
+use crate::make::part;
+use crate::make::put_byte;
+use crate::make::put_text;
+use crate::words;
 use libc::STDOUT_FILENO;
+use std::num::wrapping_add_u64;
 
-pub struct Tally {
+// How long the slice is that is lent, where the sheet ends, and what is counted. idle: the case has asked nothing yet.
+pub struct State {
+    pub len: u64,
+    pub end: u64,
+    pub idle: bool,
+    pub line: u64,
     pub cases: u64,
+    pub answers: u64,
     pub wrong: u64,
 }
 
-fn differs(got: u64, expected: u64) -> u64 {
-    if got == expected {
-        return 0;
+// Before the first line.
+pub fn start() -> State {
+    State {
+        len: 0,
+        end: 0,
+        idle: false,
+        line: 0,
+        cases: 0,
+        answers: 0,
+        wrong: 0,
     }
-    io::write_all(STDOUT_FILENO, b" WRONG, expected ");
-    io::print_decimal(STDOUT_FILENO, expected);
-    1
 }
 
-impl Tally {
-    // A line of a case: its label, its answers, its end.
+// On the next line.
+pub fn next(s: State) -> State {
+    let mut s = s;
+    s.line = wrapping_add_u64(s.line, 1);
+    s
+}
 
-    pub fn case(self, says: &[u8]) -> Tally {
-        io::write_all(STDOUT_FILENO, says);
-        Tally {
-            cases: std::num::wrapping_add_u64(self.cases, 1),
-            wrong: self.wrong,
+// Prints what a line answers, and counts it as wrong.
+pub fn differs(s: State, path: &[u8], says: &[u8]) -> State {
+    let mut s = s;
+    io::write_all(STDOUT_FILENO, path);
+    io::write_all(STDOUT_FILENO, b":");
+    io::print_decimal(STDOUT_FILENO, s.line);
+    io::write_all(STDOUT_FILENO, b":");
+    io::write_all(STDOUT_FILENO, says);
+    io::write_all(STDOUT_FILENO, b"\n");
+    s.wrong = wrapping_add_u64(s.wrong, 1);
+    s
+}
+
+// A case that asks nothing shows nothing.
+fn closed(s: State, path: &[u8]) -> State {
+    if s.idle {
+        return differs(s, path, b" the case before asks nothing");
+    }
+    s
+}
+
+// A case begins.
+pub fn begun(s: State, path: &[u8]) -> State {
+    let mut s = closed(s, path);
+    s.idle = true;
+    s.cases = wrapping_add_u64(s.cases, 1);
+    s
+}
+
+// What is answered, up to the text's end, and what is expected.
+pub fn compared(s: State, path: &[u8], text: &[u8; 8192], end: u64, expected: &[u8]) -> State {
+    let mut s = s;
+    s.idle = false;
+    s.answers = wrapping_add_u64(s.answers, 1);
+    let got = part(text, end);
+    if check::same(got, expected) {
+        return s;
+    }
+    differs(s, path, got)
+}
+
+fn said(number: u64, what: &[u8]) {
+    io::print_decimal(STDOUT_FILENO, number);
+    io::write_all(STDOUT_FILENO, what);
+}
+
+// The counts of a table, or of all.
+pub fn sums(name: &[u8], s: State) {
+    io::write_all(STDOUT_FILENO, name);
+    io::write_all(STDOUT_FILENO, b": ");
+    said(s.cases, b" cases, ");
+    said(s.answers, b" answers, ");
+    said(s.wrong, b" wrong\n");
+}
+
+// The table's end.
+pub fn ended(s: State, path: &[u8]) -> State {
+    let s = closed(s, path);
+    sums(path, s);
+    s
+}
+
+// The counts of two.
+pub fn plus(s: State, t: State) -> State {
+    let mut s = s;
+    s.cases = wrapping_add_u64(s.cases, t.cases);
+    s.answers = wrapping_add_u64(s.answers, t.answers);
+    s.wrong = wrapping_add_u64(s.wrong, t.wrong);
+    s
+}
+
+// A table that could not be read.
+pub fn lost() -> State {
+    let mut s = start();
+    s.wrong = 1;
+    s
+}
+
+// A space and a number, from a place of a text on; where it ends.
+fn say(text: &mut [u8; 8192], at: u64, number: u64) -> u64 {
+    let mut digits = [0u8; 20];
+    let size = io::decimal(number, &mut digits);
+    put_byte(text, at, 32);
+    put_text(text, wrapping_add_u64(at, 1), &digits[..size]);
+    wrapping_add_u64(at, wrapping_add_u64(size as u64, 1))
+}
+
+// And the first of some values behind it.
+fn say_values(text: &mut [u8; 8192], at: u64, values: &[u64], count: usize) -> u64 {
+    let mut end = at;
+    let mut i = 0;
+    while i < count {
+        if i < values.len() {
+            end = say(text, end, values[i]);
         }
+        i += 1;
     }
+    end
+}
 
-    pub fn said(self, says: &[u8], number: u64) -> Tally {
-        io::write_all(STDOUT_FILENO, says);
-        io::print_decimal(STDOUT_FILENO, number);
-        self
+fn many(k: usize, from: usize, to: usize, number: u64, values: usize) -> usize {
+    if number != 0 {
+        return 0;
     }
+    if k < from {
+        return 0;
+    }
+    if to < k {
+        return 0;
+    }
+    values
+}
 
-    pub fn answer(self, says: &[u8], got: u64, expected: u64) -> Tally {
-        let t = self.said(says, got);
-        Tally {
-            cases: t.cases,
-            wrong: std::num::wrapping_add_u64(t.wrong, differs(got, expected)),
-        }
-    }
-
-    pub fn end(self) -> Tally {
-        io::write_all(STDOUT_FILENO, b"\n");
-        self
-    }
-
-    // A case with one answer.
-    pub fn with(self, says: &[u8], got: u64, expected: u64) -> Tally {
-        self.case(says).answer(b": ", got, expected).end()
-    }
-
-    pub fn print(self) {
-        io::print_decimal(STDOUT_FILENO, self.cases);
-        io::write_all(STDOUT_FILENO, b" cases, ");
-        io::print_decimal(STDOUT_FILENO, self.wrong);
-        io::write_all(STDOUT_FILENO, b" wrong answers\n");
-    }
+// A call's number, and its values where that is 0, of an append always; the answer is where the text ends.
+pub fn answer(
+    k: usize,
+    number: u64,
+    two: &[u64; 2],
+    three: &[u64; 3],
+    seven: &[u64; 7],
+    text: &mut [u8; 8192],
+) -> u64 {
+    let at = say(text, 0, number);
+    let at = say_values(text, at, two, many(k, words::APPEND, words::APPEND, 0, 2));
+    let at = say_values(
+        text,
+        at,
+        two,
+        many(k, words::NAME, words::ELEMENT, number, 2),
+    );
+    let at = say_values(
+        text,
+        at,
+        three,
+        many(k, words::OPEN, words::OPEN, number, 3),
+    );
+    say_values(
+        text,
+        at,
+        seven,
+        many(k, words::ENTRY, words::LOOKUP, number, 7),
+    )
 }

@@ -1,0 +1,42 @@
+// The calls that change an image.
+use crate::line::Numbers;
+use crate::make::part;
+use crate::make::within;
+use crate::words;
+use dialmoth::dialmoth_append;
+use dialmoth::dialmoth_create;
+
+fn append(image: &mut [u8], len: u64, sheet: &[u8], limit: u64, two: &mut [u64; 2]) -> u64 {
+    let len = within(len, image.len());
+    dialmoth_append(&mut image[0..len], sheet, limit, two)
+}
+
+fn create(image: &mut [u8], len: u64, n: Numbers, table: &[u8]) -> u64 {
+    let len = within(len, image.len());
+    let version = (n.a % 4294967296) as u32;
+    dialmoth_create(
+        &mut image[0..len],
+        part(table, n.d),
+        part(table, n.e),
+        version,
+        n.b,
+        n.c,
+    )
+}
+
+// The number of a call that changes an image.
+pub fn call(
+    k: usize,
+    n: Numbers,
+    table: &[u8],
+    image: &mut [u8; 8192],
+    len: u64,
+    sheet: &[u8],
+    two: &mut [u64; 2],
+) -> u64 {
+    match k {
+        words::CREATE => create(image, len, n, table),
+        words::APPEND => append(image, len, sheet, n.e, two),
+        _ => 0,
+    }
+}
