@@ -2,7 +2,9 @@
 //!
 //!   bench images FOLDER   writes the images that the real GSD library is timed on
 //!   bench table [FILE]    prints a table; FILE has the real library's times, lines "key µs"
+//!   bench stores          prints what appends store
 
+mod fingerprint;
 mod work;
 
 use differential::library::{Library, Reference};
@@ -12,13 +14,16 @@ use std::hint::black_box;
 use std::path::Path;
 use std::time::{Duration, Instant};
 use std::{env, fs, process};
-use work::{Day, Large, Next};
+use work::{Day, Large, Next, Stored};
 
 /// Each row's times are medians of so many passes over the table.
 const PASSES: usize = 7;
 
 /// So long for each row of a pass, both sides in turn; three times as long for work in parts.
 const TIME: Duration = Duration::from_millis(500);
+
+/// A row that may take longer is timed again only where it did not.
+const LONG: Duration = Duration::from_millis(250);
 
 /// What one side does, given the number of the part.
 type Side<'a, S> = &'a mut dyn FnMut(&mut S, usize);
@@ -68,11 +73,13 @@ fn time_text(time: Duration) -> String {
     match nanos {
         n if n < 1e3 => format!("{n:.0} ns"),
         n if n < 1e6 => format!("{:.2} µs", n / 1e3),
-        n => format!("{:.2} ms", n / 1e6),
+        n if n < 1e9 => format!("{:.2} ms", n / 1e6),
+        n => format!("{:.2} s", n / 1e9),
     }
 }
 
 /// A row of one pass.
+#[derive(Clone, Copy)]
 struct Row {
     what: &'static str,
     /// Under which the real library's time is found; empty for none.
@@ -89,13 +96,21 @@ impl Row {
     }
 }
 
-/// The rows of one pass.
+/// The rows of one pass, and those of the first where this is another.
 struct Pass<'l> {
     library: &'l dyn Library,
+    first: Option<&'l [Row]>,
     rows: Vec<Row>,
 }
 
 impl Pass<'_> {
+    /// Whether the next row is to be timed. Where it took long in the first pass, it stands as it was.
+    fn due(&mut self) -> bool {
+        let long = self.first.map(|rows| rows[self.rows.len()]).filter(|row| row.library > LONG);
+        self.rows.extend(long);
+        long.is_none()
+    }
+
     fn row(&mut self, what: &'static str, key: &'static str, library: Duration, other: Duration) {
         self.rows.push(Row { what, key, library, other, compared: true });
     }
@@ -184,9 +199,18 @@ fn element(library: &dyn Library, image: &[u8], frame: u64) {
     black_box(out);
 }
 
-fn pass(library: &dyn Library) -> Vec<Row> {
-    let mut pass = Pass { library, rows: Vec::new() };
+// One pass over the bytes: the sum of all words, or the number of zeros.
 
+fn sum(bytes: &[u8]) {
+    let words = bytes.as_chunks().0.iter();
+    black_box(words.fold(0, |sum: u64, &word| sum.wrapping_add(u64::from_le_bytes(word))));
+}
+
+fn zeros(bytes: &[u8]) {
+    black_box(bytes.iter().filter(|&&byte| byte == 0).count());
+}
+
+fn opening(pass: &mut Pass) {
     let month = work::month();
     pass.reading("open, 40,000 entries, 16 names", "open_month", |l| open(l, &month));
 
@@ -198,6 +222,25 @@ fn pass(library: &dyn Library) -> Vec<Row> {
     let times = best(&mut (), |_| {}, 1, &mut [hashed]);
     pass.row("open, 1,024 names, beside a hash table for the pairs", "", pairs, times[0]);
 
+    let names = work::one_fingerprint();
+    let what = "open, 1 MiB, 1,024 names made to have one fingerprint";
+    pass.reading(what, "", |l| open(l, &names));
+
+    if pass.due() {
+        let (library, names) = (pass.library, work::long_names());
+        let sides: &mut [Side<()>] = &mut [
+            &mut |_, _| open(library, &names),
+            &mut |_, _| sum(black_box(&names)),
+            &mut |_, _| zeros(black_box(&names)),
+        ];
+        let times = best(&mut (), |_| {}, 1, sides);
+        let what =
+            "open, 64 MiB, 1,024 names that differ near their end, beside one pass over its bytes";
+        pass.row(what, "", times[0], times[1].min(times[2]));
+    }
+}
+
+fn days(pass: &mut Pass) {
     let (small, mut day) = (work::small(), Day::new());
     pass.reading("lookup, 24 entries", "", |l| lookup(l, &small, 4));
     pass.reading("lookup, 4,320 entries", "lookup_day", |l| lookup(l, &day.image, 700));
@@ -206,8 +249,11 @@ fn pass(library: &dyn Library) -> Vec<Row> {
     pass.both(what, "read_day", &mut day, |_| {}, work::FRAMES, |day, l, n| day.read(l, n));
     let what = "append 1,440 frames of 3 chunks in turn";
     pass.both(what, "append_day", &mut day, Day::clear, work::FRAMES, |day, l, n| day.append(l, n));
+}
 
-    let mut next = Next::new();
+/// One more frame behind many entries.
+fn next(pass: &mut Pass, what: &'static str, mut next: Next) {
+    let library = pass.library;
     let sides: &mut [Side<Next>] = &mut [
         &mut |next, _| next.append(library),
         &mut |next, _| next.append(&Reference),
@@ -215,12 +261,14 @@ fn pass(library: &dyn Library) -> Vec<Row> {
         &mut |next, _| next.open(&Reference),
     ];
     let times = best(&mut next, Next::restore, 1, sides);
-    pass.row("append a frame of 3 chunks behind 40,000 entries", "", times[0], times[1]);
+    pass.row(what, "", times[0], times[1]);
     let [ours, plain] = [0, 1].map(|side| times[side].saturating_sub(times[side + 2]));
     let what = "the same, less the time of opening it";
     pass.rows.push(Row { what, key: "", library: ours, other: plain, compared: false });
+}
 
-    let mut large = Large::new();
+fn large(pass: &mut Pass) {
+    let (library, mut large) = (pass.library, Large::new());
     let sides: &mut [Side<Large>] = &mut [
         &mut |large, _| large.append(library),
         &mut |large, _| large.append(&Reference),
@@ -229,7 +277,43 @@ fn pass(library: &dyn Library) -> Vec<Row> {
     let times = best(&mut large, Large::restore, 1, sides);
     pass.row("append one chunk of 1 MiB", "append_large", times[0], times[1]);
     pass.row("append one chunk of 1 MiB, beside memcpy", "", times[0], times[2]);
+}
+
+fn pass(library: &dyn Library, first: Option<&[Row]>) -> Vec<Row> {
+    let mut pass = Pass { library, first, rows: Vec::new() };
+    opening(&mut pass);
+    days(&mut pass);
+    next(&mut pass, "append a frame of 3 chunks behind 40,000 entries", Next::fitting());
+    next(&mut pass, "append a frame of 3 chunks, 65,536 slots", Next::doubled());
+    large(&mut pass);
     pass.rows
+}
+
+/// A number with commas.
+fn grouped(number: u64) -> String {
+    match number {
+        0..1000 => number.to_string(),
+        _ => format!("{},{:03}", grouped(number / 1000), number % 1000),
+    }
+}
+
+/// What appends store: exact numbers, the same on every machine.
+fn stores() {
+    let (library, _) = library();
+    println!("Stores of whole appends, eight bytes each; frames in turn begin with create, 64 slots and 16 segments.\n");
+    println!("| append | stores | bytes stored | bytes of data |");
+    println!("|---|---|---|---|");
+    let rows = [
+        ("a frame of 3 chunks behind 40,000 entries", Next::fitting().stored(library)),
+        ("a frame of 3 chunks, 65,536 slots", Next::doubled().stored(library)),
+        ("1,440 frames of 3 chunks in turn", Day::of_three().stored(library, 1440)),
+        ("1,440 frames of 4 chunks in turn", Day::of_four().stored(library, 1440)),
+        ("1,440 frames of 4 chunks, 60 to an image", Day::of_four().stored(library, 60)),
+    ];
+    for (what, Stored { stores, data }) in rows {
+        let [stores, bytes, data] = [stores, 8 * stores, data].map(grouped);
+        println!("| {what} | {stores} | {bytes} | {data} |");
+    }
 }
 
 fn table(real: HashMap<String, f64>) {
@@ -238,7 +322,10 @@ fn table(real: HashMap<String, f64>) {
     println!("Library: {title}. Medians of {PASSES} passes, in each the best times of both sides in turn.\n");
     println!("| | library | plain Rust | ratio | least to most | {gsd} |");
     println!("|---|---|---|---|---|---|");
-    let passes: Vec<_> = (0..PASSES).map(|_| pass(library)).collect();
+    let mut passes = vec![pass(library, None)];
+    for _ in 1..PASSES {
+        passes.push(pass(library, Some(&passes[0])));
+    }
     print(&passes, &real);
 
     println!();
@@ -249,6 +336,10 @@ fn table(real: HashMap<String, f64>) {
     );
     println!("each run of 1,440 appends, untimed. The 1 MiB chunk goes to memory written before");
     println!("and not cleared; header and blocks are restored, untimed.");
+    println!(
+        "The 64 MiB are opened in the first pass alone where that takes over {} ms.",
+        LONG.as_millis()
+    );
     if !real.is_empty() {
         println!("gsd.fl works on files, from Python, and writes them by the system's calls.");
     }
@@ -265,6 +356,7 @@ fn main() {
                 fs::write(Path::new(folder).join(format!("{name}.gsd")), image).unwrap();
             }
         }
+        ["stores"] => stores(),
         ["table"] => table(HashMap::new()),
         ["table", file] => {
             let text = fs::read_to_string(file).unwrap();
@@ -272,7 +364,7 @@ fn main() {
             table(times.map(|(key, time)| (key.into(), time.parse().unwrap())).collect());
         }
         _ => {
-            eprintln!("usage: bench images FOLDER | bench table [FILE]");
+            eprintln!("usage: bench images FOLDER | bench table [FILE] | bench stores");
             process::exit(2);
         }
     }

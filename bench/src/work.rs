@@ -1,14 +1,11 @@
 //! What is timed: a month's index, many names, a day of frames, one large chunk.
 
-use differential::images::{blank, put_names, put_slots, sheet, Row, Slot};
+use crate::fingerprint;
+use differential::images::{blank, lawful_rows, put_names, put_slots, sheet, Row, Slot};
 use differential::library::{Create, Library, Reference};
 use std::hint::black_box;
 
 pub const FRAMES: usize = 1440;
-
-fn listed(image: &mut [u8], at: usize, names: &[String]) {
-    put_names(image, at, names.iter().map(String::as_bytes));
-}
 
 const ENTRIES: usize = 40_000;
 
@@ -19,7 +16,7 @@ fn month_and(free: usize) -> Vec<u8> {
     let data = 256 + 32 * slots + 64 * segments;
     let mut image =
         blank(data + 8 * slots, 256, slots as u64, (data - 64 * segments) as u64, segments as u64);
-    listed(&mut image, data - 64 * segments, &names);
+    put_names(&mut image, data - 64 * segments, names.iter().map(String::as_bytes));
     let entries: Vec<_> = (0..ENTRIES)
         .map(|n| Slot::bytes(n as u64 / 16, n as u16 % 16, (data + 8 * n) as u64, 8))
         .collect();
@@ -31,15 +28,34 @@ pub fn month() -> Vec<u8> {
     month_and(0)
 }
 
-/// 1,024 names of one length that begin alike, and one frame.
-pub fn names() -> Vec<u8> {
-    let names: Vec<_> = (0..1024).map(|n| format!("cabinet/reading {n:04}")).collect();
-    let segments = (21 * 1024_usize).div_ceil(64);
+const NAMES: usize = 1024;
+
+/// Names in a block that is just long enough, and one frame.
+fn naming(names: &[Vec<u8>]) -> Vec<u8> {
+    let text: usize = names.iter().map(|name| name.len() + 1).sum();
+    let segments = text.div_ceil(64);
     let data = 256 + 32 * 4 + 64 * segments;
-    let mut image = blank(data + 64, 256, 4, 384, segments as u64);
-    listed(&mut image, 384, &names);
+    let mut image = blank(data + 8, 256, 4, 384, segments as u64);
+    put_names(&mut image, 384, names.iter().map(Vec::as_slice));
     put_slots(&mut image, 256, &[Slot::bytes(0, 1000, data as u64, 8)]);
     image
+}
+
+/// 1,024 names of one length that begin alike.
+pub fn names() -> Vec<u8> {
+    let name = |n| format!("cabinet/reading {n:04}").into_bytes();
+    naming(&(0..NAMES).map(name).collect::<Vec<_>>())
+}
+
+/// 1,024 names of 65,535 bytes, alike but for four shortly before the last: 64 MiB.
+pub fn long_names() -> Vec<u8> {
+    let name = |n| format!("{}{n:04}.", "x".repeat(65_530)).into_bytes();
+    naming(&(0..NAMES).map(name).collect::<Vec<_>>())
+}
+
+/// 1,024 names of 1,023 bytes, alike but for 16 near their end, and with one fingerprint: 1 MiB.
+pub fn one_fingerprint() -> Vec<u8> {
+    naming(&fingerprint::shared(NAMES))
 }
 
 /// 8 frames of 3 chunks.
@@ -69,16 +85,47 @@ fn append(library: &dyn Library, image: &mut [u8], sheet: &[u8]) {
     assert_eq!(out[0], out[1]);
 }
 
+fn readings(minute: usize) -> [[u8; 4]; 3] {
+    [0, 1, 2].map(|probe| (20.0 + probe as f32 + minute as f32 / 60.0).to_le_bytes())
+}
+
 /// A minute's sheet: three readings, the heater's duty and a setpoint.
 fn frame(minute: usize) -> Vec<u8> {
-    let readings: Vec<u8> = (0..3)
-        .flat_map(|probe| (20.0 + probe as f32 + minute as f32 / 60.0).to_le_bytes())
-        .collect();
     sheet(&[
-        Row::new(b"probe", 9, 3, 1, &readings),
+        Row::new(b"probe", 9, 3, 1, readings(minute).as_flattened()),
         Row::new(b"heater", 1, 1, 1, &[minute as u8]),
         Row::new(b"setpoint", 10, 1, 1, &21.5_f64.to_le_bytes()),
     ])
+}
+
+/// A minute's sheet of four rows: three readings, each a chunk, and the heater's duty.
+fn frame_of_four(minute: usize) -> Vec<u8> {
+    let [first, second, third] = readings(minute);
+    sheet(&[
+        Row::new(b"probe0", 9, 1, 1, &first),
+        Row::new(b"probe1", 9, 1, 1, &second),
+        Row::new(b"probe2", 9, 1, 1, &third),
+        Row::new(b"heater", 1, 1, 1, &[minute as u8]),
+    ])
+}
+
+/// What appends store.
+#[derive(Default)]
+pub struct Stored {
+    pub stores: u64,
+    /// Bytes of the rows' data, without names and padding.
+    pub data: u64,
+}
+
+impl Stored {
+    /// Adds the append of one sheet, and makes no store.
+    fn add(&mut self, library: &dyn Library, image: &mut [u8], sheet: &[u8]) {
+        let mut out = [0; 2];
+        assert_eq!(library.append(image, sheet, 0, &mut out), 0);
+        self.stores += out[1];
+        let rows = lawful_rows(sheet).unwrap();
+        self.data += rows.iter().map(|row| row.data.len() as u64).sum::<u64>();
+    }
 }
 
 /// A day of frames in one image.
@@ -88,14 +135,36 @@ pub struct Day {
 }
 
 impl Day {
-    /// The whole day.
+    fn of(frame: fn(usize) -> Vec<u8>) -> Day {
+        Day { image: vec![0; 1 << 20], sheets: (0..FRAMES).map(frame).collect() }
+    }
+
+    /// The whole day, of three chunks a frame.
     pub fn new() -> Day {
-        let sheets = (0..FRAMES).map(frame).collect();
-        let mut day = Day { image: vec![0; 1 << 20], sheets };
-        for minute in 0..FRAMES {
-            day.append(&Reference, minute);
-        }
+        let mut day = Day::of_three();
+        (0..FRAMES).for_each(|minute| day.append(&Reference, minute));
         day
+    }
+
+    pub fn of_three() -> Day {
+        Day::of(frame)
+    }
+
+    pub fn of_four() -> Day {
+        Day::of(frame_of_four)
+    }
+
+    /// What the day's appends store, with so many frames to an image.
+    pub fn stored(mut self, library: &dyn Library, frames: usize) -> Stored {
+        let mut stored = Stored::default();
+        for sheets in self.sheets.chunks(frames) {
+            create(library, &mut self.image);
+            for sheet in sheets {
+                stored.add(library, &mut self.image, sheet);
+                append(library, &mut self.image, sheet);
+            }
+        }
+        stored
     }
 
     pub fn clear(&mut self) {
@@ -121,17 +190,27 @@ impl Day {
     }
 }
 
-/// A month's image with three free slots, and a frame of three small rows for them.
+/// A month's image with free slots, and a frame of three small rows for the first of them.
 pub struct Next {
     image: Vec<u8>,
     sheet: Vec<u8>,
 }
 
 impl Next {
-    pub fn new() -> Next {
+    fn new(slots: usize) -> Next {
         let names = [3, 7, 11].map(|n| format!("probe/{n:02}/reading"));
         let rows = names.map(|name| Row::bytes(name.as_bytes(), b"reading."));
-        Next { image: month_and(3), sheet: sheet(&rows) }
+        Next { image: month_and(slots - ENTRIES), sheet: sheet(&rows) }
+    }
+
+    /// As many slots as the frame takes.
+    pub fn fitting() -> Next {
+        Next::new(ENTRIES + 3)
+    }
+
+    /// As many slots as doubling gives: step 1 of each append clears all free ones.
+    pub fn doubled() -> Next {
+        Next::new(65_536)
     }
 
     /// The slots as they were before the append.
@@ -141,6 +220,12 @@ impl Next {
 
     pub fn append(&mut self, library: &dyn Library) {
         append(library, black_box(&mut self.image), black_box(&self.sheet));
+    }
+
+    pub fn stored(mut self, library: &dyn Library) -> Stored {
+        let mut stored = Stored::default();
+        stored.add(library, &mut self.image, &self.sheet);
+        stored
     }
 
     pub fn open(&self, library: &dyn Library) {

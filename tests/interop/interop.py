@@ -1,6 +1,7 @@
 """Images of this library read by the real GSD library, and its files by ours.
 
-Usage: interop.py PEER FILES [SEED]: the helper program, and the folder of stored files.
+Usage: interop.py PEER FILES [SEED]: the helper program, and the folder of stored files: data/ has
+them, stdout their listings, each under its file's name.
 The last line is 'N passed, M failed'.
 
 Conditions, for what is more than GSD allows cannot be read by it: names in UTF-8, M at least 1, at
@@ -209,6 +210,13 @@ def append_real(rng, path, frames):
             frames.append(frame)
 
 
+def first_lines(path):
+    """The first line of each file's listing, by the file's name."""
+    with open(path) as file:
+        lines = file.read().splitlines()
+    return {name: first for name, first in zip(lines, lines[1:]) if name.endswith(".gsd")}
+
+
 class Tests:
     def __init__(self, peer, folder, seed):
         self.peer, self.folder, self.seed = peer, folder, seed
@@ -315,15 +323,13 @@ class Tests:
         ours_reads(self.peer, path, frames)
         real_reads(path, frames)
 
-    def stored(self, path):
-        """A stored file: what both read is the same, or it is refused as its listing says."""
+    def stored(self, path, first):
+        """A stored file: what both read is the same, or it is refused as its listing's first line says."""
         found = self.peer.read(path)
-        with open(path.removesuffix(".gsd") + ".list") as file:
-            first = file.readline()
         if isinstance(found, int):
-            assert found in (14, 15) and first == f"refused {found}\n", found
+            assert found in (14, 15) and first == f"refused {found}", found
             return
-        assert first.startswith("frames ")
+        assert first.startswith("too long" if os.path.getsize(path) > 65_536 else "frames ")
         with gsd.fl.open(path, "rb") as file:
             # Frames without a chunk behind the last one are not told from no frame at all.
             assert file.find_matching_chunk_names("") == found[0]
@@ -344,10 +350,11 @@ def main():
         tests.test("files of gsd.fl, read by ours", 60, tests.real_file)
         tests.test("ours, grown by gsd.fl", 60, tests.real_grows_ours)
         tests.test("files of gsd.fl, grown by ours", 60, tests.ours_grows_real)
-        for name in sorted(os.listdir(files)):
+        listed = first_lines(os.path.join(files, "stdout"))
+        for name in sorted(os.listdir(os.path.join(files, "data"))):
             if name.endswith(".gsd"):
-                path = os.path.join(files, name)
-                tests.test(f"stored {name}", 1, lambda rng, _: tests.stored(path))
+                path = os.path.join(files, "data", name)
+                tests.test(f"stored {name}", 1, lambda rng, _: tests.stored(path, listed[name]))
     print(f"{tests.passed} passed, {tests.failed} failed")
     return 1 if tests.failed else 0
 

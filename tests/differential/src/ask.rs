@@ -1,4 +1,4 @@
-//! The eight calls with answers as `Result`s, for tests that hold a library to the paper directly.
+//! The calls with answers as `Result`s, for tests that hold a library to the paper directly.
 
 use crate::library::{Create, Library};
 

@@ -1,8 +1,9 @@
-//! Two makers of the eight calls side by side, on one image.
+//! Two makers of the calls side by side, on one image.
 
 use crate::images::Row;
 use crate::lent::{Flush, Lent};
 use crate::library::{Create, Library, Reference};
+use std::collections::BTreeMap;
 use std::fmt::Write;
 
 /// What an `out` array holds before a call, so that one left alone shows.
@@ -41,7 +42,7 @@ pub struct Check<'l> {
     pub comparisons: u64,
     pub failures: u64,
     /// How often each number was the answer, 0 for none.
-    pub met: [u64; 64],
+    pub met: BTreeMap<u64, u64>,
     /// Moments of runs of appends looked at.
     pub moments: u64,
     /// Whether to print failures.
@@ -60,7 +61,7 @@ impl<'l> Check<'l> {
             flush: Flush::End,
             comparisons: 0,
             failures: 0,
-            met: [0; 64],
+            met: BTreeMap::new(),
             moments: 0,
             show: true,
         }
@@ -93,7 +94,7 @@ impl<'l> Check<'l> {
         call: impl FnOnce() -> String,
     ) -> Option<[u64; K]> {
         self.comparisons += 1;
-        self.met[expected as usize] += 1;
+        *self.met.entry(expected).or_default() += 1;
         let strayed = [theirs.front, theirs.behind] != [[BEFORE; 2]; 2];
         let (theirs, ours) = ((number, theirs.numbers), (expected, ours.numbers));
         if theirs != ours || strayed {

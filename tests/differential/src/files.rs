@@ -3,23 +3,64 @@
 use crate::ask::Ask;
 use crate::images::get64;
 use crate::library::Library;
-use std::{fs, io, path::Path};
+use std::path::{Path, PathBuf};
+use std::{fs, io};
 
-pub fn directory() -> &'static Path {
-    Path::new(concat!(env!("CARGO_MANIFEST_DIR"), "/../files"))
+/// Where the files lie, what the listing program prints for each, and what the real library reads.
+pub struct Files {
+    images: PathBuf,
+    /// One text with each listing under its file's name, or a folder of NAME.list.
+    listings: PathBuf,
+    chunks: PathBuf,
 }
 
-/// The names of the files, without their ending.
-pub fn names(directory: &Path) -> io::Result<Vec<String>> {
-    let mut names = Vec::new();
-    for file in fs::read_dir(directory)? {
-        let path = file?.path();
-        if path.extension().is_some_and(|ending| ending == "gsd") {
-            names.extend(path.file_stem().and_then(|stem| stem.to_str()).map(String::from));
+impl Files {
+    /// The stored ones: images and listings are those of the program gsd_files.
+    pub fn stored() -> Files {
+        let root = Path::new(concat!(env!("CARGO_MANIFEST_DIR"), "/../.."));
+        Files {
+            images: root.join("crates/gsd_files/data"),
+            listings: root.join("crates/gsd_files/stdout"),
+            chunks: root.join("tests/files"),
         }
     }
-    names.sort();
-    Ok(names)
+
+    /// NAME.gsd, NAME.list and NAME.chunks in one folder.
+    pub fn of(folder: PathBuf) -> Files {
+        Files { images: folder.clone(), listings: folder.clone(), chunks: folder }
+    }
+
+    /// The names of the files, without their ending.
+    pub fn names(&self) -> io::Result<Vec<String>> {
+        let mut names = Vec::new();
+        for file in fs::read_dir(&self.images)? {
+            let path = file?.path();
+            if path.extension().is_some_and(|ending| ending == "gsd") {
+                names.extend(path.file_stem().and_then(|stem| stem.to_str()).map(String::from));
+            }
+        }
+        names.sort();
+        Ok(names)
+    }
+
+    fn image(&self, name: &str) -> Vec<u8> {
+        fs::read(self.images.join(format!("{name}.gsd"))).unwrap()
+    }
+
+    fn chunks(&self, name: &str) -> String {
+        fs::read_to_string(self.chunks.join(format!("{name}.chunks"))).unwrap()
+    }
+
+    fn listing(&self, name: &str) -> String {
+        if self.listings.is_dir() {
+            return fs::read_to_string(self.listings.join(format!("{name}.list"))).unwrap();
+        }
+        let heading = format!("{name}.gsd");
+        let all = fs::read_to_string(&self.listings).unwrap();
+        let from = all.lines().skip_while(|&line| line != heading).skip(1);
+        let lines = from.take_while(|line| !line.ends_with(".gsd"));
+        lines.map(|line| line.to_owned() + "\n").collect()
+    }
 }
 
 fn crc32(bytes: &[u8]) -> u32 {
@@ -35,15 +76,13 @@ fn hex(text: &str) -> Vec<u8> {
 }
 
 /// Panics unless the library lists the file and reads its chunks as the real one does.
-pub fn hold(library: &dyn Library, directory: &Path, name: &str) {
-    let read = |ending: &str| fs::read(directory.join(format!("{name}.{ending}"))).unwrap();
-    let text = |ending: &str| String::from_utf8(read(ending)).unwrap();
-    let image = read("gsd");
-    assert_eq!(library.listing(&image), text("list"), "{name}");
+pub fn hold(library: &dyn Library, files: &Files, name: &str) {
+    let image = files.image(name);
+    assert_eq!(library.listing(&image), files.listing(name), "{name}");
     let Ok([_, _, entries]) = library.counts(&image) else {
         return;
     };
-    let chunks = text("chunks");
+    let chunks = files.chunks(name);
     assert_eq!(chunks.lines().count() as u64, entries, "{name}");
     for line in chunks.lines() {
         let fields: Vec<_> = line.split('\t').collect();

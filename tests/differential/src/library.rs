@@ -1,4 +1,4 @@
-//! The eight calls as the C interface has them, so that any two makers can be held side by side.
+//! The calls as the C interface has them, so that any two makers can be held side by side.
 
 use crate::reference::{self, Answer, Element, Entry};
 

@@ -1,16 +1,18 @@
 //! All tests, one after the other.
 
+use crate::cases;
 use crate::check::Check;
+use crate::files::{self, Files};
 use crate::groups::{Group, GROUPS};
 use crate::library::Library;
 use crate::random::Rng;
-use crate::{cases, files};
+use std::collections::BTreeMap;
 use std::io::Write;
 use std::panic::{catch_unwind, AssertUnwindSafe};
 use std::time::{Duration, Instant};
 
 /// The numbers of document 01's table; 2 has a slice of its own that is not compared here.
-const NUMBERS: [usize; 33] = [
+const NUMBERS: [u64; 33] = [
     1, 3, 4, 5, 6, 7, 8, 9, 10, 11, 12, 13, 14, 15, 16, 17, 21, 22, 23, 24, 25, 26, 27, 28, 29, 40,
     41, 42, 43, 44, 50, 51, 52,
 ];
@@ -29,7 +31,7 @@ pub struct Totals {
     pub comparisons: u64,
     pub moments: u64,
     /// How often each number was the answer compared.
-    pub met: [u64; 64],
+    pub met: BTreeMap<u64, u64>,
 }
 
 impl Totals {
@@ -76,7 +78,8 @@ fn rounds(check: &mut Check, options: &Options, number: usize, group: &Group) ->
 }
 
 pub fn run(library: &dyn Library, options: &Options) -> Totals {
-    let mut totals = Totals { passed: 0, failed: 0, comparisons: 0, moments: 0, met: [0; 64] };
+    let mut totals =
+        Totals { passed: 0, failed: 0, comparisons: 0, moments: 0, met: BTreeMap::new() };
     let wanted = |name: &str| name.contains(&options.only);
     for (name, case) in cases::CASES {
         if wanted(name) {
@@ -86,12 +89,12 @@ pub fn run(library: &dyn Library, options: &Options) -> Totals {
             });
         }
     }
-    let directory = files::directory();
-    for name in files::names(directory).expect("the files of tests/files") {
+    let files = Files::stored();
+    for name in files.names().expect("the images of crates/gsd_files") {
         let title = format!("file {name}");
         if wanted(&title) {
             totals.test(&title, || {
-                files::hold(library, directory, &name);
+                files::hold(library, &files, &name);
                 (true, String::new())
             });
         }
@@ -121,15 +124,15 @@ pub fn run(library: &dyn Library, options: &Options) -> Totals {
             });
             totals.comparisons += check.comparisons;
             totals.moments += check.moments;
-            for (sum, met) in totals.met.iter_mut().zip(check.met) {
-                *sum += met;
+            for (number, times) in check.met {
+                *totals.met.entry(number).or_default() += times;
             }
         }
     }
     if options.only.is_empty() && options.time.is_none() {
-        let met = totals.met;
+        let missed: Vec<_> =
+            NUMBERS.into_iter().filter(|number| !totals.met.contains_key(number)).collect();
         totals.test("the random groups met every number", || {
-            let missed: Vec<_> = NUMBERS.into_iter().filter(|&number| met[number] == 0).collect();
             (
                 missed.is_empty(),
                 if missed.is_empty() { String::new() } else { format!(" {missed:?}") },

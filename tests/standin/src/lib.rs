@@ -1,4 +1,4 @@
-//! The eight functions of include/dialmoth.h over the plain Rust implementation.
+//! The functions of include/dialmoth.h over the plain Rust implementation.
 //!
 //! It is no part of the library. The differential tests, the examples, the interoperation tests
 //! and the benchmark can be tried on it where there is no libdialmoth.a.
