@@ -9,48 +9,15 @@
  *
  * The archive is for x86-64 (System V), for C and C++, and takes memcpy and
  * memset from the C library, nothing else. Beside what these two use, the stack
- * needs at most 5 KiB for a reading call, 31 KiB for append, 1 KiB for create.
+ * needs at most 9 KiB for a reading call, 25 KiB for append, 1 KiB for create.
  *
- * Every call answers a number: 0, or the number of the refusal:
- *
- *   No.      Refused exactly when
- *   -------  ---------------------------------------------------------------
- *            opening, in this order; every call but create opens first
- *    1,  2   image under 256 bytes; over 1,073,741,824
- *    3,  4   wrong magic; version not 2.0
- *    5       application or schema has no zero byte
- *    6,  7   index block, name block: starts below 256 or ends beyond the image
- *    8       the two blocks share a byte
- *    9       a name has no zero byte before its block ends
- *   10, 11   more than 1,024 names; two equal names
- *   12       an entry's location is below 256 and not 0 (negative included)
- *   13, 14   type not 1 to 10; id not below the number of names
- *   15       first frame not 0, frame skipped, or (frame, id) not above the
- *            entry before
- *   16, 17   chunk ends beyond the image; chunk shares a byte with a block
- *            append, in this order
- *   21       index or name location not a multiple of 8
- *   22       sheet under 4 bytes, or its count is 0 or above 64
- *   23       sheet shorter than its table
- *   24       a row with an unknown type, name length 0 or spare bytes not 0
- *   25       sheet's length is not exactly table plus bodies
- *   26, 27   a name holds a zero byte; two rows have one name
- *   28, 29   names would pass 1,024; the append would pass the image's end
- *            lookup, chunk and element, in this order
- *   40       frame not below the number of frames
- *   41       name not listed
- *   42       no such chunk in the frame
- *   43       element number not below N times M
- *            n-th name, n-th entry
- *   44       n not below that count
- *            create: 2, then
- *   50       more than 65,536 slots or segments
- *   51       text over 63 bytes or holding zero
- *   52       image too short
- *
- * Tests 12 to 17 run entry by entry: the first bad entry decides, and in it
- * the lowest number. A refusal changes nothing, neither the image nor out; only
+ * Every call answers a number: 0, or that of the refusal, listed below with its
+ * name and its text. A refusal changes nothing, neither the image nor out; only
  * a refused append sets its out to 0 and 0.
+ *
+ * Opening costs at most some passes over the image's bytes, whatever it holds,
+ * but for names made on purpose to have one 32-bit fingerprint: these are
+ * compared pair by pair (1,024 such names of 64 KiB: seconds, at every call).
  *
  * Pointers are never null, not even with length 0; bytes may lie at any address.
  * What a call writes, the image of create and append and every out, overlaps no
@@ -65,6 +32,75 @@
 #ifdef __cplusplus
 extern "C" {
 #endif
+
+/* The refusals, R(number, name, text) for each: refused exactly when the text
+ * holds. The first that applies is answered. */
+#define DIALMOTH_REFUSALS(R)                                                                    \
+    /* Opening, in this order; every call but create opens first. Tests 12 to 17 run            \
+     * entry by entry: the first bad entry decides, and in it the lowest number. */             \
+    R(1, DIALMOTH_SHORT_IMAGE, "image under 256 bytes")                                         \
+    R(2, DIALMOTH_LONG_IMAGE, "image over 1,073,741,824 bytes")                                 \
+    R(3, DIALMOTH_WRONG_MAGIC, "wrong magic")                                                   \
+    R(4, DIALMOTH_WRONG_VERSION, "version not 2.0")                                             \
+    R(5, DIALMOTH_UNCLOSED_TEXT, "application or schema has no zero byte")                      \
+    R(6, DIALMOTH_INDEX_OUTSIDE, "index block starts below 256 or ends beyond the image")       \
+    R(7, DIALMOTH_NAMES_OUTSIDE, "name block starts below 256 or ends beyond the image")        \
+    R(8, DIALMOTH_BLOCKS_OVERLAP, "index block and name block share a byte")                    \
+    R(9, DIALMOTH_UNCLOSED_NAME, "a name has no zero byte before its block ends")               \
+    R(10, DIALMOTH_MANY_NAMES, "more than 1,024 names")                                         \
+    R(11, DIALMOTH_EQUAL_NAMES, "two equal names")                                              \
+    R(12, DIALMOTH_LOW_LOCATION, "an entry's location is negative, or below 256 and not 0")     \
+    R(13, DIALMOTH_UNKNOWN_TYPE, "an entry's type is not 1 to 10")                              \
+    R(14, DIALMOTH_UNKNOWN_ID, "an entry's id is not below the number of names")                \
+    R(15, DIALMOTH_FRAME_ORDER,                                                                 \
+      "first frame not 0, frame skipped, or (frame, id) not above the entry before")            \
+    R(16, DIALMOTH_CHUNK_OUTSIDE, "a chunk ends beyond the image")                              \
+    R(17, DIALMOTH_CHUNK_IN_BLOCK, "a chunk shares a byte with a block")                        \
+    /* Append, in this order. */                                                                \
+    R(21, DIALMOTH_UNALIGNED_BLOCK, "index or name location not a multiple of 8")               \
+    R(22, DIALMOTH_ROW_COUNT, "sheet under 4 bytes, or its count is 0 or above 64")             \
+    R(23, DIALMOTH_SHORT_TABLE, "sheet shorter than its table")                                 \
+    R(24, DIALMOTH_BAD_ROW, "a row with an unknown type, name length 0 or spare bytes not 0")   \
+    R(25, DIALMOTH_SHEET_LENGTH, "sheet's length is not exactly table plus bodies")             \
+    R(26, DIALMOTH_ZERO_IN_NAME, "a name of the sheet holds a zero byte")                       \
+    R(27, DIALMOTH_NAME_TWICE, "two rows of the sheet have one name")                           \
+    R(28, DIALMOTH_NAMES_FULL, "names would pass 1,024")                                        \
+    R(29, DIALMOTH_NO_ROOM, "the append would pass the image's end")                            \
+    /* Lookup, chunk and element, in this order. */                                             \
+    R(40, DIALMOTH_NO_FRAME, "frame not below the number of frames")                            \
+    R(41, DIALMOTH_NO_NAME, "name not listed")                                                  \
+    R(42, DIALMOTH_NO_CHUNK, "no such chunk in the frame")                                      \
+    R(43, DIALMOTH_NO_ELEMENT, "element number not below N times M")                            \
+    /* N-th name, n-th entry. */                                                                \
+    R(44, DIALMOTH_NO_NTH, "n not below the number of names or of entries")                     \
+    /* Create: 2, then these in this order. */                                                  \
+    R(50, DIALMOTH_LARGE_BLOCK, "more than 65,536 slots or segments")                           \
+    R(51, DIALMOTH_BAD_TEXT, "application or schema over 63 bytes or holding a zero byte")      \
+    R(52, DIALMOTH_SHORT_FOR_BLOCKS, "image too short for its blocks")
+
+#define DIALMOTH_NAMED(number, name, text) name = number,
+enum dialmoth_refusal { DIALMOTH_REFUSALS(DIALMOTH_NAMED) };
+#undef DIALMOTH_NAMED
+
+/* The text of a refusal. It may stay unused without a warning. */
+#ifdef __GNUC__
+__attribute__((unused))
+#endif
+static inline const char *dialmoth_refusal_text(uint64_t number)
+{
+    switch (number) {
+#define DIALMOTH_SAID(number, name, text) case number: return text;
+        DIALMOTH_REFUSALS(DIALMOTH_SAID)
+#undef DIALMOTH_SAID
+    default:
+        return "not a refusal";
+    }
+}
+
+/* A literal as two arguments, its bytes and how many they are:
+ * dialmoth_lookup(image, length, frame, DIALMOTH_TEXT("heater"), out). */
+#define DIALMOTH_TEXT(literal) \
+    (const uint8_t *)("" literal), sizeof(literal) - 1
 
 /* Types of a chunk. */
 enum dialmoth_type {
@@ -114,8 +150,8 @@ uint64_t dialmoth_name(const uint8_t *image, size_t image_length, uint64_t n,
 uint64_t dialmoth_entry(const uint8_t *image, size_t image_length, uint64_t n,
                         uint64_t out[7]);
 
-/* The entry of a name in a frame. 42 says that the frame has no such chunk: it
- * is no value of its own, and not a zero. out: as dialmoth_entry. */
+/* The entry of a name in a frame. DIALMOTH_NO_CHUNK says that the frame has no
+ * such chunk: no value stands for that, not even 0. out: as dialmoth_entry. */
 uint64_t dialmoth_lookup(const uint8_t *image, size_t image_length,
                          uint64_t frame, const uint8_t *name,
                          size_t name_length, uint64_t out[7]);
@@ -126,7 +162,8 @@ uint64_t dialmoth_chunk(const uint8_t *image, size_t image_length,
                         uint64_t frame, const uint8_t *name,
                         size_t name_length, uint64_t out[2]);
 
-/* Element k of a chunk, from 0, M the fast index: k = row * M + column.
+/* Element k of a chunk, from 0, M the fast index: k = i * M + j for i below N
+ * and j below M.
  * out: its kind (enum dialmoth_kind) and its exact bits. */
 uint64_t dialmoth_element(const uint8_t *image, size_t image_length,
                           uint64_t frame, const uint8_t *name,
@@ -134,7 +171,9 @@ uint64_t dialmoth_element(const uint8_t *image, size_t image_length,
 
 /* Makes a fresh image with no frame. 0 slots stand for 64, 0 segments for 16;
  * it needs 256 + 32 * slots + 64 * segments bytes, and those behind stay as
- * they are. The texts have at most 63 bytes and need no closing zero. */
+ * they are. The texts have at most 63 bytes and need no closing zero.
+ * Ask for few slots and segments: every append clears those that are free, and
+ * one that needs more moves them by itself to a block at least twice as long. */
 uint64_t dialmoth_create(uint8_t *image, size_t image_length,
                          const uint8_t *application, size_t application_length,
                          const uint8_t *schema, size_t schema_length,
@@ -150,6 +189,10 @@ uint64_t dialmoth_create(uint8_t *image, size_t image_length,
  * join or reorder stores, so a cut of power inside it is not covered.
  * out: stores done, stores of the whole append. The frame is there exactly when
  * the answer is 0 and they are equal.
+ * The first stores of every append clear all free slots, 4 stores each, and the
+ * rest of the name block, 8 a segment. So 1,440 frames of 4 rows, 18,720 bytes of
+ * data, are 8,481,720 stores or 68 MB in one image of 64 slots and 16 segments at
+ * first; in 24 such images of 60 frames they are 4.2 MB.
  *
  * A sheet is a table, then the bodies, numbers little-endian, nothing between:
  *   u32 count, 1 to 64;

@@ -16,7 +16,8 @@ static uint8_t image[4096];
 static void must(const char *what, uint64_t number)
 {
     if (number != 0) {
-        fprintf(stderr, "%s: refused %" PRIu64 "\n", what, number);
+        fprintf(stderr, "%s: refused %" PRIu64 ": %s\n", what, number,
+                dialmoth_refusal_text(number));
         exit(1);
     }
 }
@@ -71,7 +72,8 @@ static int append_frame(const float probe[3], const uint8_t *duty, uint64_t limi
         end = put(end, "heater", 6);
         end = put(end, duty, 1);
     }
-    must("append", dialmoth_append(image, sizeof image, sheet, (size_t)(end - sheet), limit, stores));
+    must("append",
+         dialmoth_append(image, sizeof image, sheet, (size_t)(end - sheet), limit, stores));
     printf("append: %" PRIu64 " of %" PRIu64 " stores\n", stores[0], stores[1]);
     return stores[0] == stores[1];
 }
@@ -79,7 +81,6 @@ static int append_frame(const float probe[3], const uint8_t *duty, uint64_t limi
 /* The duty of the last frame. That there is none is an answer of its own, and not a number. */
 static void print_last_duty(void)
 {
-    const uint8_t *name = (const uint8_t *)"heater";
     uint64_t counts[3], element[2], number;
 
     must("open", dialmoth_open(image, sizeof image, counts));
@@ -87,8 +88,9 @@ static void print_last_duty(void)
         printf("no frame yet\n");
         return;
     }
-    number = dialmoth_element(image, sizeof image, counts[0] - 1, name, 6, 0, element);
-    if (number == 41 || number == 42) {
+    number = dialmoth_element(image, sizeof image, counts[0] - 1, DIALMOTH_TEXT("heater"), 0,
+                              element);
+    if (number == DIALMOTH_NO_NAME || number == DIALMOTH_NO_CHUNK) {
         printf("frame %" PRIu64 ": no heater chunk\n", counts[0] - 1);
         return;
     }
@@ -114,8 +116,8 @@ int main(int count, char **words)
     static const float evening[3] = {21.5f, 22.25f, 19.0f}, night[3] = {18.5f, 18.75f, 17.5f};
     const uint8_t duty = 40, more = 55;
 
-    must("create", dialmoth_create(image, sizeof image, (const uint8_t *)"regulator", 9,
-                                   (const uint8_t *)"night", 5, 0x00010000, 8, 1));
+    must("create", dialmoth_create(image, sizeof image, DIALMOTH_TEXT("regulator"),
+                                   DIALMOTH_TEXT("night"), 0x00010000, 8, 1));
     print_last_duty();
 
     append_frame(evening, &duty, UINT64_MAX);

@@ -1,4 +1,4 @@
-//! The eight functions of include/dialmoth.h as they are.
+//! The functions of include/dialmoth.h as they are.
 //!
 //! A slice is a pointer and a length; the pointer is never null. `out` points to as many numbers
 //! as the function's comment says. The result is the number of the refusal, 0 for an answer.

@@ -1,6 +1,6 @@
 //! Safe calls of libdialmoth.a, which reads and appends GSD 2.0 images that lie in memory.
 //!
-//! ```no_run
+//! ```
 //! use dialmoth::{Element, Row, Type};
 //!
 //! let mut image = vec![0; 4096];
@@ -11,74 +11,21 @@
 //! # Ok::<(), dialmoth::Refusal>(())
 //! ```
 //!
-//! Every refusal has a number, listed in include/dialmoth.h. What is not there is a refusal and
-//! never a stand-in value: [`Refusal::NO_CHUNK`] says that a frame has no such chunk.
+//! What is not there is a refusal and never a stand-in value: [`Refusal::NO_CHUNK`] says that a
+//! frame has no such chunk.
+//!
+//! The package needs `core` alone, but for [`sheet`], which answers a `Vec`: it is left out without
+//! the default feature `alloc`, and [`put_sheet`] writes the same bytes to a lent slice.
+
+#![no_std]
+
+#[cfg(feature = "alloc")]
+extern crate alloc;
 
 pub mod ffi;
+mod refusal;
 
-use std::{error::Error, fmt};
-
-/// The number of a refusal, 1 to 52.
-#[derive(Clone, Copy, Debug, PartialEq, Eq, Hash)]
-pub struct Refusal(pub u64);
-
-impl Refusal {
-    /// The frame is not below the number of frames.
-    pub const NO_FRAME: Refusal = Refusal(40);
-    /// No name of the list is this one.
-    pub const NO_NAME: Refusal = Refusal(41);
-    /// The frame has no chunk of this name.
-    pub const NO_CHUNK: Refusal = Refusal(42);
-
-    /// What the number says.
-    pub fn reason(self) -> &'static str {
-        match self.0 {
-            1 => "image under 256 bytes",
-            2 => "image over 1,073,741,824 bytes",
-            3 => "wrong magic",
-            4 => "version not 2.0",
-            5 => "application or schema has no zero byte",
-            6 => "index block starts below 256 or ends beyond the image",
-            7 => "name block starts below 256 or ends beyond the image",
-            8 => "index block and name block share a byte",
-            9 => "a name has no zero byte before its block ends",
-            10 => "more than 1,024 names",
-            11 => "two equal names",
-            12 => "an entry's location is below 256 and not 0",
-            13 => "an entry's type is not 1 to 10",
-            14 => "an entry's id is not below the number of names",
-            15 => "first frame not 0, frame skipped, or entries out of order",
-            16 => "a chunk ends beyond the image",
-            17 => "a chunk shares a byte with a block",
-            21 => "index or name location not a multiple of 8",
-            22 => "sheet under 4 bytes, or its count is 0 or above 64",
-            23 => "sheet shorter than its table",
-            24 => "a row with an unknown type, no name or spare bytes not 0",
-            25 => "sheet's length is not exactly table plus bodies",
-            26 => "a name of the sheet holds a zero byte",
-            27 => "two rows of the sheet have one name",
-            28 => "names would pass 1,024",
-            29 => "the append would pass the image's end",
-            40 => "no such frame",
-            41 => "name not listed",
-            42 => "no such chunk in the frame",
-            43 => "element number not below N times M",
-            44 => "no such name or entry",
-            50 => "more than 65,536 slots or segments",
-            51 => "text over 63 bytes or holding zero",
-            52 => "image too short for its blocks",
-            _ => "unknown number",
-        }
-    }
-}
-
-impl fmt::Display for Refusal {
-    fn fmt(&self, f: &mut fmt::Formatter<'_>) -> fmt::Result {
-        write!(f, "refused {}: {}", self.0, self.reason())
-    }
-}
-
-impl Error for Refusal {}
+pub use refusal::Refusal;
 
 /// The type of a chunk's elements.
 #[derive(Clone, Copy, Debug, PartialEq, Eq, Hash)]
@@ -259,7 +206,8 @@ pub fn element(image: &[u8], frame: u64, name: &[u8], k: u64) -> Result<Element,
     })
 }
 
-/// Makes a fresh image; 0 slots stand for 64, 0 segments for 16.
+/// Makes a fresh image; 0 slots stand for 64, 0 segments for 16. Every append clears those that are
+/// free, and moves them by itself where it needs more.
 pub fn create(
     image: &mut [u8],
     application: &[u8],
@@ -303,25 +251,60 @@ pub struct Row<'a> {
     pub data: &'a [u8],
 }
 
-/// The append sheet of these rows: a table of contents, then names and data.
+/// Bytes of the sheet of these rows.
+pub fn sheet_length(rows: &[Row]) -> usize {
+    4 + rows.iter().map(|row| 16 + row.name.len() + row.data.len()).sum::<usize>()
+}
+
+/// Writes the append sheet of these rows, a table of contents, then names and data, to the start of
+/// `out`, and hands out that part of it.
+///
+/// `None` where `out` is too short, or a name has over 255 bytes, which a table cannot hold; `out`
+/// may then hold a part of the sheet.
+pub fn put_sheet<'a>(rows: &[Row], out: &'a mut [u8]) -> Option<&'a [u8]> {
+    let sheet = out.get_mut(..sheet_length(rows))?;
+    let (count, rest) = sheet.split_at_mut(4);
+    count.copy_from_slice(&u32::try_from(rows.len()).ok()?.to_le_bytes());
+    let (table, bodies) = rest.split_at_mut(16 * rows.len());
+    for (place, row) in table.chunks_exact_mut(16).zip(rows) {
+        place[..8].copy_from_slice(&row.n.to_le_bytes());
+        place[8..12].copy_from_slice(&row.m.to_le_bytes());
+        place[12..].copy_from_slice(&[row.kind as u8, u8::try_from(row.name.len()).ok()?, 0, 0]);
+    }
+    let bytes = rows.iter().flat_map(|row| row.name.iter().chain(row.data));
+    for (place, byte) in bodies.iter_mut().zip(bytes) {
+        *place = *byte;
+    }
+    Some(sheet)
+}
+
+/// The append sheet of these rows, as [`put_sheet`] writes it.
 ///
 /// # Panics
 ///
-/// With a name over 255 bytes, or over `u32::MAX` rows, which a table cannot hold.
-pub fn sheet(rows: &[Row]) -> Vec<u8> {
-    let bodies: usize = rows.iter().map(|row| row.name.len() + row.data.len()).sum();
-    let mut sheet = Vec::with_capacity(4 + 16 * rows.len() + bodies);
-    sheet.extend(u32::try_from(rows.len()).expect("too many rows").to_le_bytes());
-    for row in rows {
-        sheet.extend(row.n.to_le_bytes());
-        sheet.extend(row.m.to_le_bytes());
-        sheet.push(row.kind as u8);
-        sheet.push(u8::try_from(row.name.len()).expect("name over 255 bytes"));
-        sheet.extend([0, 0]);
-    }
-    for row in rows {
-        sheet.extend(row.name);
-        sheet.extend(row.data);
-    }
+/// With a name over 255 bytes, which a table cannot hold.
+#[cfg(feature = "alloc")]
+pub fn sheet(rows: &[Row]) -> alloc::vec::Vec<u8> {
+    let mut sheet = alloc::vec![0; sheet_length(rows)];
+    put_sheet(rows, &mut sheet).expect("name over 255 bytes");
     sheet
+}
+
+#[cfg(test)]
+mod tests {
+    use super::{put_sheet, Row, Type};
+
+    #[test]
+    fn sheets_are_written_to_slices_that_hold_them() {
+        let probe = Row { name: b"probe", kind: Type::Float, n: 3, m: 1, data: b"twelve bytes" };
+        let expected = b"\x01\0\0\0\x03\0\0\0\0\0\0\0\x01\0\0\0\x09\x05\0\0probetwelve bytes";
+        let mut out = [0; 40];
+        assert_eq!(put_sheet(&[probe], &mut out), Some(&expected[..]));
+        assert_eq!(put_sheet(&[probe], &mut out[..37]), Some(&expected[..]));
+        assert_eq!(put_sheet(&[probe], &mut out[..36]), None);
+        let mut out = [0; 1000];
+        let longest = Row { name: &[b'n'; 255], ..probe };
+        assert_eq!(put_sheet(&[longest], &mut out).map(|sheet| sheet.len()), Some(287));
+        assert_eq!(put_sheet(&[Row { name: &[b'n'; 256], ..probe }], &mut out), None);
+    }
 }

@@ -1,5 +1,25 @@
-// Lists each file that an argument names, under its name.
+// Lists each file that an argument names, under its name, or says on standard error why it cannot be read.
 use libc::STDOUT_FILENO;
+
+// `io::read_full` answers a short count at the file's end and where a read fails; only at the end a further read gives 0.
+fn at_end(fd: i32) -> bool {
+    let mut more = [0u8; 1];
+    libc::read(fd, &mut more) == 0
+}
+
+fn list_open(fd: i32, path: &[u8]) {
+    let mut input = [0u8; 65537];
+    let mut text = [0u8; 262144];
+    let n = io::read_full(fd, &mut input);
+    if n < 65537 && !at_end(fd) {
+        os::fail(path);
+        return;
+    }
+    let size = gsd_listing::print_into(&input[..n], &mut text);
+    io::write_all(STDOUT_FILENO, path);
+    io::write_all(STDOUT_FILENO, b"\n");
+    io::write_all(STDOUT_FILENO, &text[0..size]);
+}
 
 fn list(path: &[u8]) {
     let fd = os::open_read(path);
@@ -7,14 +27,8 @@ fn list(path: &[u8]) {
         os::fail(path);
         return;
     }
-    let mut input = [0u8; 65537];
-    let mut text = [0u8; 262144];
-    let n = io::read_full(fd, &mut input);
+    list_open(fd, path);
     libc::close(fd);
-    let size = gsd_listing::print_into(&input[..n], &mut text);
-    io::write_all(STDOUT_FILENO, path);
-    io::write_all(STDOUT_FILENO, b"\n");
-    io::write_all(STDOUT_FILENO, &text[0..size]);
 }
 
 fn list_argument(i: usize) {

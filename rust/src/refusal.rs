@@ -1,0 +1,116 @@
+//! The refusals, as include/dialmoth.h has them: a number, a name and a text each.
+
+use core::{error::Error, fmt};
+
+/// The number of a refusal, 1 to 52.
+#[derive(Clone, Copy, Debug, PartialEq, Eq, Hash)]
+pub struct Refusal(pub u64);
+
+macro_rules! refusals {
+    ($($number:literal $name:ident $text:literal)*) => {
+        impl Refusal {
+            $(
+                #[doc = $text]
+                pub const $name: Refusal = Refusal($number);
+            )*
+
+            /// What the number says.
+            pub fn reason(self) -> &'static str {
+                match self.0 {
+                    $($number => $text,)*
+                    _ => "not a refusal",
+                }
+            }
+        }
+
+        #[cfg(test)]
+        const NAMED: &[(&str, Refusal)] = &[$((stringify!($name), Refusal::$name)),*];
+    };
+}
+
+refusals! {
+    // Opening, in this order; every call but create opens first. Tests 12 to 17 run entry by entry.
+    1 SHORT_IMAGE "image under 256 bytes"
+    2 LONG_IMAGE "image over 1,073,741,824 bytes"
+    3 WRONG_MAGIC "wrong magic"
+    4 WRONG_VERSION "version not 2.0"
+    5 UNCLOSED_TEXT "application or schema has no zero byte"
+    6 INDEX_OUTSIDE "index block starts below 256 or ends beyond the image"
+    7 NAMES_OUTSIDE "name block starts below 256 or ends beyond the image"
+    8 BLOCKS_OVERLAP "index block and name block share a byte"
+    9 UNCLOSED_NAME "a name has no zero byte before its block ends"
+    10 MANY_NAMES "more than 1,024 names"
+    11 EQUAL_NAMES "two equal names"
+    12 LOW_LOCATION "an entry's location is negative, or below 256 and not 0"
+    13 UNKNOWN_TYPE "an entry's type is not 1 to 10"
+    14 UNKNOWN_ID "an entry's id is not below the number of names"
+    15 FRAME_ORDER "first frame not 0, frame skipped, or (frame, id) not above the entry before"
+    16 CHUNK_OUTSIDE "a chunk ends beyond the image"
+    17 CHUNK_IN_BLOCK "a chunk shares a byte with a block"
+    // Append, in this order.
+    21 UNALIGNED_BLOCK "index or name location not a multiple of 8"
+    22 ROW_COUNT "sheet under 4 bytes, or its count is 0 or above 64"
+    23 SHORT_TABLE "sheet shorter than its table"
+    24 BAD_ROW "a row with an unknown type, name length 0 or spare bytes not 0"
+    25 SHEET_LENGTH "sheet's length is not exactly table plus bodies"
+    26 ZERO_IN_NAME "a name of the sheet holds a zero byte"
+    27 NAME_TWICE "two rows of the sheet have one name"
+    28 NAMES_FULL "names would pass 1,024"
+    29 NO_ROOM "the append would pass the image's end"
+    // Lookup, chunk and element, in this order; then n-th name and entry.
+    40 NO_FRAME "frame not below the number of frames"
+    41 NO_NAME "name not listed"
+    42 NO_CHUNK "no such chunk in the frame"
+    43 NO_ELEMENT "element number not below N times M"
+    44 NO_NTH "n not below the number of names or of entries"
+    // Create: 2, then these in this order.
+    50 LARGE_BLOCK "more than 65,536 slots or segments"
+    51 BAD_TEXT "application or schema over 63 bytes or holding a zero byte"
+    52 SHORT_FOR_BLOCKS "image too short for its blocks"
+}
+
+impl fmt::Display for Refusal {
+    fn fmt(&self, f: &mut fmt::Formatter<'_>) -> fmt::Result {
+        write!(f, "refused {}: {}", self.0, self.reason())
+    }
+}
+
+impl Error for Refusal {}
+
+#[cfg(test)]
+mod tests {
+    use super::{Refusal, NAMED};
+
+    const HEADER: &str = include_str!("../../include/dialmoth.h");
+
+    /// Number, name and text of one `R(number, name, text)` of the header, from its number on.
+    fn row(row: &'static str) -> (u64, &'static str, &'static str) {
+        let (number, rest) = row.split_once(',').unwrap();
+        let (name, rest) = rest.split_once(',').unwrap();
+        let (_, rest) = rest.split_once('"').unwrap();
+        let (text, _) = rest.split_once("\")").unwrap();
+        (number.parse().unwrap(), name.trim().strip_prefix("DIALMOTH_").unwrap(), text)
+    }
+
+    fn rows() -> impl Iterator<Item = (u64, &'static str, &'static str)> {
+        let (_, table) = HEADER.split_once("#define DIALMOTH_REFUSALS(R)").unwrap();
+        let (table, _) = table.split_once("\n\n").unwrap();
+        table.split(" R(").skip(1).map(row)
+    }
+
+    #[test]
+    fn refusals_are_those_of_the_header() {
+        assert_eq!(rows().count(), NAMED.len());
+        for (row, (name, refusal)) in rows().zip(NAMED) {
+            assert_eq!(row, (refusal.0, *name, refusal.reason()));
+        }
+    }
+
+    #[test]
+    fn other_numbers_are_not_refusals() {
+        assert!(HEADER.contains("return \"not a refusal\";"));
+        for number in (0..100).filter(|number| rows().all(|row| row.0 != *number)) {
+            assert_eq!(Refusal(number).reason(), "not a refusal");
+        }
+    }
+}
