@@ -81,6 +81,7 @@ pub fn name_part(starts: &[u32; PLACES], i: usize) -> Part
     }
 }
 
+// The bytes of the i-th name.
 pub(crate) fn name_bytes<'a, 'b>(image: &'a [u8], starts: &'b [u32; PLACES], i: usize) -> &'a [u8]
     requires { ⌜ Span (now starts) i (length (now image)) ⌝ }
     ensures { λ r. ⌜ now r ≡ bytesOf (now (image .entry)) (partAt (now (starts .entry)) i) ⌝ }

@@ -3,6 +3,7 @@ ghost use mathlib.Core.Path.{_≡_};
 ghost use Prim.Native.Nat.{_+_, _^_, _<_, max, min};
 ghost use Rattle.gsd_format.specs.Bytes.{meets};
 
+// The greater of two.
 pub(crate) fn greater(a: u64, b: u64) -> u64
     ensures { λ r. ⌜ r ≡ max a b ⌝ }
 {
@@ -12,6 +13,7 @@ pub(crate) fn greater(a: u64, b: u64) -> u64
     a
 }
 
+// The lesser of two.
 pub(crate) fn lesser(a: u64, b: u64) -> u64
     ensures { λ r. ⌜ r ≡ min a b ⌝ }
 {
