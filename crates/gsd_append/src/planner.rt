@@ -1,5 +1,6 @@
 // The plan of an append: everything is tested and every place and number found before the first store.
 use gsd_bytes::MOST_NAMES;
+use gsd_bytes::SLOT_SIZE;
 use gsd_format::Layout;
 use gsd_names::PLACES;
 use gsd_open::Survey;
@@ -107,7 +108,7 @@ fn join<'a>(
         name_at,
         name_from,
         name_until,
-        slot: index + 32 * survey.entries as usize,
+        slot: index + SLOT_SIZE as usize * survey.entries as usize,
         frame: survey.frames,
         n,
         meta,

@@ -3,6 +3,7 @@ use crate::list::NameList;
 use crate::list::PLACES;
 use crate::twins::any_twins;
 use gsd_bytes::MOST_NAMES;
+use gsd_bytes::SEGMENT_SIZE;
 use gsd_format::Layout;
 ghost use mathlib.Core.Path.{_≡_};
 ghost use mathlib.Core.Bool.{not, _&&_};
@@ -33,7 +34,7 @@ pub fn names_number(image: &[u8], l: Layout, names: NameList, starts: &[u32; PLA
     if goes_on(
         image,
         names.list_end,
-        (l.namelist + 64 * l.segments) as usize,
+        (l.namelist + SEGMENT_SIZE * l.segments) as usize,
     ) {
         return 9;
     }

@@ -43,7 +43,7 @@ fn text_open(image: &[u8]) -> bool
 pub(crate) fn header_number(image: &[u8]) -> u64
     ensures { λ r. ⌜ r ≡ headerTest (now (image .entry)) ⌝ }
 {
-    if image.len() < 256 {
+    if image.len() < HEADER_SIZE as usize {
         return 1;
     }
     if GREATEST_LENGTH < image.len() {

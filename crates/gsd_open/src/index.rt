@@ -164,7 +164,7 @@ pub(crate) fn walk_entries(image: &[u8], l: Layout, names: u64) -> Walk
         least = key_of(e) + 1;
         top = e.frame + 1;
         chunks_end = greater(chunks_end, e.location + size);
-        at += 32;
+        at += SLOT_SIZE as usize;
         i += 1;
     }
     Walk {

@@ -1,4 +1,5 @@
 // Where an append's parts go: the end of use, the places and counts of new blocks, the final position.
+use gsd_bytes::HEADER_SIZE;
 use gsd_bytes::INDEX_PLACE;
 use gsd_bytes::NAMELIST_PLACE;
 use gsd_bytes::SEGMENT_SIZE;
@@ -39,7 +40,7 @@ pub fn end_of_use(l: Layout, chunks: u64) -> u64
 {
     let index = l.index + SLOT_SIZE * l.slots;
     let names = l.namelist + SEGMENT_SIZE * l.segments;
-    rounded(greater(256, greater(index, greater(names, chunks))))
+    rounded(greater(HEADER_SIZE, greater(index, greater(names, chunks))))
 }
 
 // The old count, at least 1, doubled as often as needed and at least once.
@@ -201,7 +202,7 @@ fn clear_runs(l: Layout, entries: usize, end: usize) -> Clears
     let words = ((l.namelist + SEGMENT_SIZE * l.segments) as usize - first) / 8;
     let kept = at_most_one(words);
     let index = number_run(
-        l.index as usize + 32 * entries,
+        l.index as usize + SLOT_SIZE as usize * entries,
         4 * (l.slots as usize - entries),
         0,
     );
@@ -240,7 +241,7 @@ fn index_block(l: Layout, entries: usize, s: Sites) -> Block
     requires fits { ⌜ (s .«index_moves» ≡ true → entries ≤ s .slots) ⌝ }
     ensures { λ r. ⌜ r ≡ indexBlockOf l entries s ⌝ }
 {
-    let end = l.index as usize + 32 * entries;
+    let end = l.index as usize + SLOT_SIZE as usize * entries;
     block_runs(
         s.index_moves,
         s.names as usize,

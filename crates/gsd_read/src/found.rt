@@ -137,7 +137,7 @@ fn find_entry(image: &[u8], index: u64, count: u64, frame: u64, id: u64) -> List
         if matches(e, frame, id) {
             return Listed::Found(e);
         }
-        at += 32;
+        at += SLOT_SIZE as usize;
         i += 1;
     }
     Listed::Refused(42)

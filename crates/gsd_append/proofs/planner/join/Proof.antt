@@ -25,11 +25,11 @@ place-names-requires c κs =
 fill-entries-requires : tie.Need-fill-entries-requires
 fill-entries-requires c κs = search needs
 
-mul-t28 : tie.Need-mul-t28
-mul-t28 c = search needs
+mul-t27 : tie.Need-mul-t27
+mul-t27 c = search needs
 
-add-t27 : tie.Need-add-t27
-add-t27 c =
+add-t31 : tie.Need-add-t31
+add-t31 c =
     let chosen2 = c .before .before .before .before .before .before .before .before .before .before .before .before .before .chosen2 in
     let start = c .before .before .before .before .before .before .before .before .before .before .before .before .before .before .before .before in
     omega (arith, index-small (start .pre) _ (chosen2 .ensures))
@@ -51,6 +51,6 @@ join-spec =
     add-place-names
     place-names-requires
     fill-entries-requires
-    mul-t28
-    add-t27
+    mul-t27
+    add-t31
     returns)
