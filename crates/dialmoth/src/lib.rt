@@ -1,19 +1,17 @@
 // The C interface. A slice is a pointer and its length, an array of fixed length a pointer. Each call answers its number,
 // 0 for none; its values go to out, which a refusal leaves as it was. Only append sets its out at every call.
-mod out;
-
 use gsd_append::append;
 use gsd_create::create;
+use gsd_out::put_counts;
+use gsd_out::put_element;
+use gsd_out::put_entry;
+use gsd_out::put_part;
 use gsd_read::chunk_place;
 use gsd_read::element;
 use gsd_read::entry;
 use gsd_read::lookup;
 use gsd_read::name;
 use gsd_read::open;
-use out::put_counts;
-use out::put_element;
-use out::put_entry;
-use out::put_part;
 ghost use mathlib.Core.Path.{_≡_};
 ghost use Rattle.gsd_format.specs.Opening.{opening};
 ghost use Rattle.gsd_format.specs.Lookup.{nthEntry, nthName, lookup, chunkPlace};
@@ -21,7 +19,8 @@ ghost use Rattle.gsd_format.specs.Elements.{element};
 ghost use Rattle.gsd_format.specs.Create.{createNumber, created};
 ghost use Rattle.gsd_format.specs.Answers.{openingNumber, listedNumber, placeNumber, elementNumber};
 ghost use Rattle.gsd_stores.specs.Append.{appendTest, appended};
-ghost use Rattle.dialmoth.specs.Out.{openingOut, listedOut, placeOut, elementOut, appendOut};
+ghost use Rattle.gsd_out.specs.Out.{openingOut, listedOut, placeOut, elementOut};
+ghost use Rattle.dialmoth.specs.Out.{appendOut};
 
 // Frames, names, entries.
 #[no_mangle]

@@ -2,7 +2,7 @@
 use Prim.Native.Nat.{ℕ, zero, suc}
 use mathlib.Core.Path.{_≡_, refl}
 use mathlib.Core.List.{List}
-use Rattle.dialmoth.specs.Out.{answered}
+use Rattle.gsd_out.specs.Out.{answered}
 
 pub left : (n : ℕ) (values before : List ℕ) → (n ≡ 0 → ⊥) → before ≡ answered n values before
 unfolding answered

@@ -1,5 +1,5 @@
-// What goes to a caller's out array: an answer's values, and nothing of a refusal. The number is answered. A refusal's is
-// never 0, and callers show that.
+// Leaf code of the C interface: an answer's values go to a caller's out array, and nothing of a refusal. The number is
+// answered. A refusal's is never 0, and callers show that.
 use gsd_format::Element;
 use gsd_format::Listed;
 use gsd_format::Opening;
@@ -10,10 +10,10 @@ ghost use Rattle.gsd_format.specs.declared.Listed.{Listed};
 ghost use Rattle.gsd_format.specs.declared.Place.{Place};
 ghost use Rattle.gsd_format.specs.declared.Element.{Element};
 ghost use Rattle.gsd_format.specs.Answers.{openingNumber, listedNumber, placeNumber, elementNumber, bits64};
-ghost use Rattle.dialmoth.specs.Out.{openingOut, listedOut, placeOut, elementOut};
+ghost use Rattle.gsd_out.specs.Out.{openingOut, listedOut, placeOut, elementOut};
 
 // Frames, names, entries.
-pub(crate) fn put_counts(answer: Opening, out: &mut [u64; 3]) -> u64
+pub fn put_counts(answer: Opening, out: &mut [u64; 3]) -> u64
     requires { ⌜ (answer ≡ Opening.Refused 0 → ⊥) ⌝ }
     ensures { λ r. ⌜ r ≡ openingNumber answer ⌝ }
     ensures { λ _. ⌜ now (out .exit) ≡ openingOut answer (now (out .entry)) ⌝ }
@@ -28,7 +28,7 @@ pub(crate) fn put_counts(answer: Opening, out: &mut [u64; 3]) -> u64
 }
 
 // The seven numbers of an entry.
-pub(crate) fn put_entry(answer: Listed, out: &mut [u64; 7]) -> u64
+pub fn put_entry(answer: Listed, out: &mut [u64; 7]) -> u64
     requires { ⌜ (answer ≡ Listed.Refused 0 → ⊥) ⌝ }
     ensures { λ r. ⌜ r ≡ listedNumber answer ⌝ }
     ensures { λ _. ⌜ now (out .exit) ≡ listedOut answer (now (out .entry)) ⌝ }
@@ -51,7 +51,7 @@ pub(crate) fn put_entry(answer: Listed, out: &mut [u64; 7]) -> u64
 }
 
 // Start and length.
-pub(crate) fn put_part(answer: Place, out: &mut [u64; 2]) -> u64
+pub fn put_part(answer: Place, out: &mut [u64; 2]) -> u64
     requires { ⌜ (answer ≡ Place.Refused 0 → ⊥) ⌝ }
     ensures { λ r. ⌜ r ≡ placeNumber answer ⌝ }
     ensures { λ _. ⌜ now (out .exit) ≡ placeOut answer (now (out .entry)) ⌝ }
@@ -76,7 +76,7 @@ fn bits_of(number: i64) -> u64
 }
 
 // The kind and the bits.
-pub(crate) fn put_element(answer: Element, out: &mut [u64; 2]) -> u64
+pub fn put_element(answer: Element, out: &mut [u64; 2]) -> u64
     requires { ⌜ (answer ≡ Element.Refused 0 → ⊥) ⌝ }
     ensures { λ r. ⌜ r ≡ elementNumber answer ⌝ }
     ensures { λ _. ⌜ now (out .exit) ≡ elementOut answer (now (out .entry)) ⌝ }

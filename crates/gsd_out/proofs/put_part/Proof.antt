@@ -1,12 +1,12 @@
--- `dialmoth::out::put_part` meets its contract: case by case of the answer.
+-- `gsd_out::put_part` meets its contract: case by case of the answer.
 use mathlib.Core.Path.{refl, ap, _∙_}
 use Rattle.gsd_format.specs.declared.Place.{Place}
 use Rattle.gsd_format.specs.Answers.{placeNumber, placeValues}
-use Rattle.dialmoth.specs.Out.{answered}
-use Rattle.dialmoth.proofs.Refusals.{left}
+use Rattle.gsd_out.specs.Out.{answered}
+use Rattle.gsd_out.proofs.Refusals.{left}
 use borrow.Author.Needs.{needs}
-use Rattle.dialmoth.proofs.out.put_part.Statement.{statement}
-use Rattle.dialmoth.proofs.out.put_part.Tie as tie
+use Rattle.gsd_out.proofs.put_part.Statement.{statement}
+use Rattle.gsd_out.proofs.put_part.Tie as tie
 
 enum-known-answer : tie.Need-enum-known-answer
 enum-known-answer c = search needs

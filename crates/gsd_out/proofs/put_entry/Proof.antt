@@ -1,12 +1,12 @@
--- `dialmoth::out::put_entry` meets its contract: case by case of the answer.
+-- `gsd_out::put_entry` meets its contract: case by case of the answer.
 use mathlib.Core.Path.{refl, ap, _∙_}
 use Rattle.gsd_format.specs.declared.Listed.{Listed}
 use Rattle.gsd_format.specs.Answers.{listedNumber, listedValues}
-use Rattle.dialmoth.specs.Out.{answered}
-use Rattle.dialmoth.proofs.Refusals.{left}
+use Rattle.gsd_out.specs.Out.{answered}
+use Rattle.gsd_out.proofs.Refusals.{left}
 use borrow.Author.Needs.{needs}
-use Rattle.dialmoth.proofs.out.put_entry.Statement.{statement}
-use Rattle.dialmoth.proofs.out.put_entry.Tie as tie
+use Rattle.gsd_out.proofs.put_entry.Statement.{statement}
+use Rattle.gsd_out.proofs.put_entry.Tie as tie
 
 enum-known-answer : tie.Need-enum-known-answer
 enum-known-answer c = search needs

@@ -1,12 +1,12 @@
--- `dialmoth::out::put_counts` meets its contract: case by case of the answer.
-use Rattle.dialmoth.proofs.Refusals.{left}
+-- `gsd_out::put_counts` meets its contract: case by case of the answer.
+use Rattle.gsd_out.proofs.Refusals.{left}
 use Rattle.gsd_format.specs.declared.Opening.{Opening}
 use mathlib.Core.Path.{refl, ap, _∙_}
 use Rattle.gsd_format.specs.Answers.{openingNumber, openingValues}
-use Rattle.dialmoth.specs.Out.{answered}
+use Rattle.gsd_out.specs.Out.{answered}
 use borrow.Author.Needs.{needs}
-use Rattle.dialmoth.proofs.out.put_counts.Statement.{statement}
-use Rattle.dialmoth.proofs.out.put_counts.Tie as tie
+use Rattle.gsd_out.proofs.put_counts.Statement.{statement}
+use Rattle.gsd_out.proofs.put_counts.Tie as tie
 
 enum-known-answer : tie.Need-enum-known-answer
 enum-known-answer c = search needs

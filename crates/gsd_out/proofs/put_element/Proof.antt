@@ -1,15 +1,15 @@
--- `dialmoth::out::put_element` meets its contract: case by case of the answer. A signed number is read back from its bits.
+-- `gsd_out::put_element` meets its contract: case by case of the answer. A signed number is read back from its bits.
 use mir.Syntax.{w64}
 use mir.Facts.{toZ-ofZ}
 use mathlib.Core.List.{[], _∷_}
 use mathlib.Core.Path.{refl, ap, _∙_}
 use Rattle.gsd_format.specs.declared.Element.{Element}
 use Rattle.gsd_format.specs.Answers.{elementNumber, elementValues, bits64}
-use Rattle.dialmoth.specs.Out.{answered}
-use Rattle.dialmoth.proofs.Refusals.{left}
+use Rattle.gsd_out.specs.Out.{answered}
+use Rattle.gsd_out.proofs.Refusals.{left}
 use borrow.Author.Needs.{needs}
-use Rattle.dialmoth.proofs.out.put_element.Statement.{statement}
-use Rattle.dialmoth.proofs.out.put_element.Tie as tie
+use Rattle.gsd_out.proofs.put_element.Statement.{statement}
+use Rattle.gsd_out.proofs.put_element.Tie as tie
 
 enum-known-answer : tie.Need-enum-known-answer
 enum-known-answer c = search needs

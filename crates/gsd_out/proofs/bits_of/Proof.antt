@@ -1,8 +1,8 @@
--- `dialmoth::out::bits_of` meets its contract: 2^64 - 1 less the number turned over, or the number itself.
+-- `gsd_out::bits_of` meets its contract: 2^64 - 1 less the number turned over, or the number itself.
 use native.Mathlib.Omega.{arith}
-use Rattle.dialmoth.proofs.Signed.{turned-fits, turned-read, turned-bits, kept-read, kept-bits}
-use Rattle.dialmoth.proofs.out.bits_of.Statement.{statement}
-use Rattle.dialmoth.proofs.out.bits_of.Tie as tie
+use Rattle.gsd_out.proofs.Signed.{turned-fits, turned-read, turned-bits, kept-read, kept-bits}
+use Rattle.gsd_out.proofs.bits_of.Statement.{statement}
+use Rattle.gsd_out.proofs.bits_of.Tie as tie
 
 sub-result : tie.Need-sub-result
 sub-result c = turned-fits _ (c .before .fits .number) (c .if1 .taken)

@@ -1,0 +1,3 @@
+-- What the proofs of the out arrays lean on.
+pub mod Signed
+pub mod Refusals

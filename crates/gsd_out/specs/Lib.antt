@@ -1,0 +1,2 @@
+-- What a call of the C interface hands out.
+pub mod Out
