@@ -21,7 +21,7 @@ number : (c : tie.After-create-test)
     → let x = c .before .before .before .before .before .before .args in
     c .create-test .result ≡ createNumber (x .image .now) (x .application .now) (x .schema .now) (x .slots) (x .segments)
 unfolding createNumber
-number c = cc
+number c = c .create-test .ensures ∙ rw (c .before .before .or-default .ensures, c .before .or-default2 .ensures)
 
 returns : tie.Need-returns
 returns c = (number (c .before), sym (created-kept _ _ _ _ _ _ (λ e. c .if1 .taken (number (c .before) ∙ e))))
@@ -39,11 +39,15 @@ same-length c = search needs
 
 returns-2 : tie.Need-returns-2
 returns-2 c =
-    let x = c .before .before .before .before .before .before .before .before .before .before .before .args in
-    let answer = number (c .before .before .before .before .before) in
+    let tested = c .before .before .before .before .before in
+    let x = tested .before .before .before .before .before .before .args in
     let zero : createNumber (x .image .now) (x .application .now) (x .schema .now) (x .slots) (x .segments) ≡ 0 =
-    sym answer ∙ c .before .before .before .before .if1 .left in
-    (answer, cc (created-made (x .image .now) (x .application .now) (x .schema .now) (x .schema-version) (x .slots) (x .segments) zero))
+    sym (number tested) ∙ c .before .before .before .before .if1 .left in (
+      number tested,
+      c .before .before .lay-out .ensures
+          ∙ rw (tested .before .before .or-default .ensures, tested .before .or-default2 .ensures)
+          (sym (created-made (x .image .now) (x .application .now) (x .schema .now) (x .schema-version) (x .slots) (x .segments) zero)),
+    )
 
 pub create-spec : {M : Type 1} → statement M
 create-spec =

@@ -1,9 +1,9 @@
--- `gsd_create::put_filled` meets its contract: the text and the zeros in a row.
+-- `gsd_fresh::put_filled` meets its contract: the text and the zeros in a row.
 use native.Mathlib.Omega.{arith}
 use borrow.Author.Needs.{needs}
-use Rattle.gsd_create.proofs.Fresh.{put-filled}
-use Rattle.gsd_create.proofs.put_filled.Statement.{statement}
-use Rattle.gsd_create.proofs.put_filled.Tie as tie
+use Rattle.gsd_fresh.proofs.Fresh.{put-filled}
+use Rattle.gsd_fresh.proofs.put_filled.Statement.{statement}
+use Rattle.gsd_fresh.proofs.put_filled.Tie as tie
 
 put-text-requires : tie.Need-put-text-requires
 put-text-requires c κs = search needs
@@ -22,8 +22,9 @@ same-length c = search needs
 
 returns : tie.Need-returns
 returns c =
-    let x = c .before .before .before .before .before .before .before .before .before .before .args in
-    cc (put-filled (x .s .now) (x .at) (x .t .now) (omega arith))
+    let put = c .before .before .before .before .before .before in
+    let x = put .before .before .before .before .args in
+    rw (c .before .before .fill-zero .ensures, put .put-text .ensures) (put-filled (x .s .now) (x .at) (x .t .now) (omega arith))
 
 pub put-filled-spec : {M : Type 1} → statement M
 put-filled-spec =

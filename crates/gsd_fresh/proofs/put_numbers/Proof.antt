@@ -1,8 +1,8 @@
--- `gsd_create::put_numbers` meets its contract: its stores in a row.
+-- `gsd_fresh::put_numbers` meets its contract: its stores in a row.
 use borrow.Author.Needs.{needs}
-use Rattle.gsd_create.proofs.Fresh.{put-numbers}
-use Rattle.gsd_create.proofs.put_numbers.Statement.{statement}
-use Rattle.gsd_create.proofs.put_numbers.Tie as tie
+use Rattle.gsd_fresh.proofs.Fresh.{put-numbers}
+use Rattle.gsd_fresh.proofs.put_numbers.Statement.{statement}
+use Rattle.gsd_fresh.proofs.put_numbers.Tie as tie
 
 put-magic-requires : tie.Need-put-magic-requires
 put-magic-requires c κs = search needs
@@ -36,9 +36,23 @@ same-length c = search needs
 
 returns : tie.Need-returns
 returns c =
-    let midway = c .before .before .before .before .before .before .before .before .before .before .before .before .before .before .before in
-    let x = midway .before .before .before .before .before .before .before .before .before .before .before .before .before .before .args in
-    cc (put-numbers (x .s .now) (x .schema-version) (x .slots) (x .segments))
+    let seventh = c .before .before in
+    let sixth = seventh .before .before .before .before in
+    let fifth = sixth .before .before .before .before in
+    let fourth = fifth .before .before .before .before in
+    let third = fourth .before .before .before .before in
+    let second = third .before .before .before .before in
+    let first = second .before .before .before .before in
+    let x = first .before .before .before .args in
+    rw (
+      seventh .put-half2 .ensures,
+      sixth .put-half .ensures,
+      fifth .put-word4 .ensures,
+      fourth .put-word3 .ensures,
+      third .put-word2 .ensures,
+      second .put-word .ensures,
+      first .put-magic .ensures,
+    ) (put-numbers (x .s .now) (x .schema-version) (x .slots) (x .segments))
 
 pub put-numbers-spec : {M : Type 1} → statement M
 put-numbers-spec =

@@ -1,9 +1,8 @@
--- `gsd_create::lay_out` meets its contract: its stores in a row are a fresh image.
-use native.Mathlib.Omega.{arith}
+-- `gsd_fresh::lay_out` meets its contract: its stores in a row are a fresh image.
 use borrow.Author.Needs.{needs}
-use Rattle.gsd_create.proofs.Fresh.{lay-out}
-use Rattle.gsd_create.proofs.lay_out.Statement.{statement}
-use Rattle.gsd_create.proofs.lay_out.Tie as tie
+use Rattle.gsd_fresh.proofs.Fresh.{lay-out}
+use Rattle.gsd_fresh.proofs.lay_out.Statement.{statement}
+use Rattle.gsd_fresh.proofs.lay_out.Tie as tie
 
 put-numbers-requires : tie.Need-put-numbers-requires
 put-numbers-requires c κs = search needs
@@ -34,8 +33,14 @@ same-length c = search needs
 
 returns : tie.Need-returns
 returns c =
-    let x = c .before .before .before .before .before .before .before .before .before .before .before .before .before .before .before .before .before .before .before .args in
-    cc (lay-out (x .image .now) (x .application .now) (x .schema .now) (x .schema-version) (x .slots) (x .segments) (omega arith) (omega arith) (omega arith))
+    let last = c .before .before in
+    let third = last .before .before .before .before in
+    let second = third .before .before .before .before in
+    let first = second .before .before .before .before in
+    let start = first .before .before .before .before .before in
+    let x = start .args in
+    rw (last .fill-zero .ensures, third .put-filled2 .ensures, second .put-filled .ensures, first .put-numbers .ensures)
+    (lay-out (x .image .now) (x .application .now) (x .schema .now) (x .schema-version) (x .slots) (x .segments) (start .pre .0) (start .pre .1 .0) (start .pre .1 .1 .1 .1))
 
 pub lay-out-spec : {M : Type 1} → statement M
 lay-out-spec =

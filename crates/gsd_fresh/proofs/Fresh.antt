@@ -9,7 +9,7 @@ use Rattle.gsd_format.specs.Bytes.{leBytes, zeros, stored}
 use Rattle.gsd_format.specs.Header.{magic, version, headerSize}
 use Rattle.gsd_format.specs.Create.{filled, freshLength, freshHeader, fresh}
 use Rattle.gsd_format.proofs.Bytes.{leBytes-length, stored-then, stored-paste}
-use Rattle.gsd_create.specs.Numbers.{numbers}
+use Rattle.gsd_fresh.specs.Numbers.{numbers}
 
 -- seven texts of these lengths, one behind the other
 seven : (s a b c d e f g : List ℕ) → length a ≡ 8 → length b ≡ 8 → length c ≡ 8 → length d ≡ 8 → length e ≡ 8 → length f ≡ 4
