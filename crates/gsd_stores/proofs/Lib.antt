@@ -27,4 +27,3 @@ pub mod Demand3
 -- Beside demand 3.
 pub mod Limits
 pub mod Places
-pub mod Table

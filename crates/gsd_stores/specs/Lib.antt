@@ -7,4 +7,3 @@ pub mod Steps
 pub mod Append
 pub mod Runs
 pub mod Demand3
-pub mod Table

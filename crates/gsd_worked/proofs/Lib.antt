@@ -1,0 +1,2 @@
+-- Their proof.
+pub mod Table

@@ -1,0 +1,2 @@
+-- The worked cases of the paper.
+pub mod Table
