@@ -40,7 +40,7 @@ loop-again c =
       search needs,
       search needs,
       simp length-set (search needs),
-      cc (stored-next (x .s .now) (x .from) (zeros (x .to - x .from)) (i - x .from) (simp length-replicate (omega arith))),
+      rw (c .before .loop .inv .3) (rw (place, byte, next) at (stored-next (x .s .now) (x .from) (zeros (x .to - x .from)) (i - x .from) (simp length-replicate (omega arith)))),
     )
 
 same-length : tie.Need-same-length Inv-loop μ-loop
@@ -49,7 +49,7 @@ same-length c = search needs
 returns : tie.Need-returns Inv-loop μ-loop
 returns c =
     let x = c .before .before .args in
-    cc (take-all (c .before .loop .i - x .from) (zeros (x .to - x .from)) (simp length-replicate (omega arith)))
+    rw (c .before .loop .inv .3, take-all (c .before .loop .i - x .from) (zeros (x .to - x .from)) (simp length-replicate (omega arith)))
 
 pub fill-zero-spec : {M : Type 1} → statement M
 fill-zero-spec =

@@ -38,13 +38,13 @@ loop-less c = search needs
 loop-again : tie.Need-loop-again Inv-loop μ-loop
 loop-again c =
     let x = c .before .before .before .args in
-    (search needs, simp length-set (search needs), cc (stored-next (x .s .now) (x .at) (x .t .now) (c .before .before .loop .i) (omega arith)))
+    (search needs, simp length-set (search needs), rw (c .before .before .loop .inv .2) (stored-next (x .s .now) (x .at) (x .t .now) (c .before .before .loop .i) (omega arith)))
 
 same-length : tie.Need-same-length Inv-loop μ-loop
 same-length c = search needs
 
 returns : tie.Need-returns Inv-loop μ-loop
-returns c = cc (take-all (c .before .loop .i) (c .before .before .args .t .now) (omega arith))
+returns c = rw (c .before .loop .inv .2, take-all (c .before .loop .i) (c .before .before .args .t .now) (omega arith))
 
 pub put-text-spec : {M : Type 1} → statement M
 put-text-spec =

@@ -19,7 +19,7 @@ same-length c = search needs
 returns : tie.Need-returns
 returns c =
     let x = c .before .before .before .before .before .before .before .before .before .args in
-    cc (stored-eight (x .s .now) (x .at) (x .w))
+    rw (c .before .before .put-half2 .ensures, c .before .before .before .before .before .before .put-half .ensures) (stored-eight (x .s .now) (x .at) (x .w))
 
 pub put-word-spec : {M : Type 1} → statement M
 put-word-spec =

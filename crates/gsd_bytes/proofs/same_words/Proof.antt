@@ -1,6 +1,6 @@
 -- `gsd_bytes::same_words` meets its contract: the words passed are the same.
 use Prim.Native.Nat.{_+_, _*_, _-_, _≤_}
-use mathlib.Core.Path.{sym}
+use mathlib.Core.Path.{sym, _∙_}
 use native.Mathlib.Omega.{arith}
 use borrow.Author.Needs.{needs}
 use Rattle.gsd_format.proofs.Bytes.{Same, le-further, le-more, same-yes, same-no}
@@ -39,7 +39,10 @@ returns c =
     let head = c .before .before .before .before in
     let x = head .before .before .before .args in
     sym (same-no (x .a .now) (x .ai) (x .b .now) (x .bi) (8 * x .n) (λ h.
-    c .if1 .taken (cc (le-further 8 (x .a .now) (x .ai) (x .b .now) (x .bi) (8 * head .loop .i) (λ k l. h k (omega arith))))))
+    c .if1 .taken
+    (c .before .before .u64-at .ensures
+    ∙ le-further 8 (x .a .now) (x .ai) (x .b .now) (x .bi) (8 * head .loop .i) (λ k l. h k (omega arith))
+    ∙ sym (c .before .u64-at2 .ensures))))
 
 add-i : tie.Need-add-i Inv-loop μ-loop
 add-i c = search needs
@@ -54,7 +57,7 @@ loop-again c =
     let further : Same (x .a .now) (x .ai) (x .b .now) (x .bi) (8 * head .loop .i + 8) =
     le-more 8 (x .a .now) (x .ai) (x .b .now) (x .bi) (8 * head .loop .i)
     (λ i. omega (arith, head .before .before .shared-slice-known .given i)) (λ i. omega (arith, head .before .shared-slice-known2 .given i))
-    (head .loop .inv .1) (cc) in
+    (head .loop .inv .1) (sym (c .before .before .u64-at .ensures) ∙ c .if1 .left ∙ c .before .u64-at2 .ensures) in
     (search needs, λ k l. further k (omega arith))
 
 returns-2 : tie.Need-returns-2 Inv-loop μ-loop

@@ -1,11 +1,7 @@
 -- `gsd_fingerprint::ending` meets its contract, case by case.
-use Prim.Native.Nat.{_+_, _*_, _-_, _/_}
-use mathlib.Core.Path.{_≡_, sym, _∙_}
+use mathlib.Core.Path.{sym, _∙_}
 use native.Mathlib.Omega.{arith}
-use lib.ListN.{length, getD}
 use borrow.Author.Needs.{needs}
-use Rattle.gsd_format.specs.Bytes.{le}
-use Rattle.gsd_fingerprint.specs.Fingerprint.{ending}
 use Rattle.gsd_fingerprint.proofs.Lanes.{ending-eight, ending-four, ending-few, ending-none}
 use Rattle.gsd_fingerprint.proofs.ending.Statement.{statement}
 use Rattle.gsd_fingerprint.proofs.ending.Tie as tie
@@ -31,8 +27,7 @@ add-result c = search needs
 returns-2 : tie.Need-returns-2
 returns-2 c =
     let s = c .before .before .before .before .before .args .s .now in
-    let four : ending s ≡ le 4 s 0 + 4294967296 * le 4 s (length s - 4) = ending-four s (omega arith) (omega arith) in
-    cc
+    rw (c .before .u32-at .ensures .0, c .u32-at2 .ensures .0) (sym (ending-four s (omega arith) (omega arith)))
 
 returns-3 : tie.Need-returns-3
 returns-3 c = ending-none _ (omega arith)
@@ -73,8 +68,7 @@ add-result-3 c = search needs
 returns-4 : tie.Need-returns-4
 returns-4 c =
     let s = c .before .before .before .before .before .before .before .before .before .before .args .s .now in
-    let few : ending s ≡ getD s 0 0 + 256 * getD s (length s / 2) 0 + 65536 * getD s (length s - 1) 0 = ending-few s (omega arith) in
-    cc
+    rw (c .before .before .before .before .wide .ensures .0, c .before .before .wide2 .ensures .0, c .wide3 .ensures .0) (sym (ending-few s (omega arith)))
 
 pub ending-spec : {M : Type 1} → statement M
 ending-spec =

@@ -27,7 +27,16 @@ folded-requires c κs = search needs
 
 returns : tie.Need-returns
 unfolding fingerprint
-returns c = cc
+returns c =
+    let read = c .before .before .before in
+    rw (
+      c .folded .ensures,
+      c .before .mixed2 .ensures,
+      c .before .before .ending .ensures,
+      read .words .ensures,
+      read .before .mixed .ensures,
+      read .before .before .blocks2 .ensures,
+    )
 
 pub fingerprint-spec : {M : Type 1} → statement M
 fingerprint-spec =
