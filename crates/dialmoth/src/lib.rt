@@ -25,8 +25,8 @@ ghost use Rattle.dialmoth.specs.Out.{appendOut};
 // Frames, names, entries.
 #[no_mangle]
 pub extern "C" fn dialmoth_open(image: &[u8], out: &mut [u64; 3]) -> u64
-    ensures { λ r. ⌜ r ≡ openingNumber (opening (now (image .entry))) ⌝ }
-    ensures { λ _. ⌜ now (out .exit) ≡ openingOut (opening (now (image .entry))) (now (out .entry)) ⌝ }
+    ensures number { λ r. ⌜ r ≡ openingNumber (opening (now (image .entry))) ⌝ }
+    ensures out { λ _. ⌜ now (out .exit) ≡ openingOut (opening (now (image .entry))) (now (out .entry)) ⌝ }
 {
     put_counts(open(image), out)
 }
@@ -34,8 +34,8 @@ pub extern "C" fn dialmoth_open(image: &[u8], out: &mut [u64; 3]) -> u64
 // Start, length.
 #[no_mangle]
 pub extern "C" fn dialmoth_name(image: &[u8], n: u64, out: &mut [u64; 2]) -> u64
-    ensures { λ r. ⌜ r ≡ placeNumber (nthName (now (image .entry)) n) ⌝ }
-    ensures { λ _. ⌜ now (out .exit) ≡ placeOut (nthName (now (image .entry)) n) (now (out .entry)) ⌝ }
+    ensures number { λ r. ⌜ r ≡ placeNumber (nthName (now (image .entry)) n) ⌝ }
+    ensures out { λ _. ⌜ now (out .exit) ≡ placeOut (nthName (now (image .entry)) n) (now (out .entry)) ⌝ }
 {
     put_part(name(image, n), out)
 }
@@ -43,8 +43,8 @@ pub extern "C" fn dialmoth_name(image: &[u8], n: u64, out: &mut [u64; 2]) -> u64
 // Frame, N, location, M, id, type, flags.
 #[no_mangle]
 pub extern "C" fn dialmoth_entry(image: &[u8], n: u64, out: &mut [u64; 7]) -> u64
-    ensures { λ r. ⌜ r ≡ listedNumber (nthEntry (now (image .entry)) n) ⌝ }
-    ensures { λ _. ⌜ now (out .exit) ≡ listedOut (nthEntry (now (image .entry)) n) (now (out .entry)) ⌝ }
+    ensures number { λ r. ⌜ r ≡ listedNumber (nthEntry (now (image .entry)) n) ⌝ }
+    ensures out { λ _. ⌜ now (out .exit) ≡ listedOut (nthEntry (now (image .entry)) n) (now (out .entry)) ⌝ }
 {
     put_entry(entry(image, n), out)
 }
@@ -52,8 +52,8 @@ pub extern "C" fn dialmoth_entry(image: &[u8], n: u64, out: &mut [u64; 7]) -> u6
 // As dialmoth_entry.
 #[no_mangle]
 pub extern "C" fn dialmoth_lookup(image: &[u8], frame: u64, name: &[u8], out: &mut [u64; 7]) -> u64
-    ensures { λ r. ⌜ r ≡ listedNumber (lookup (now (image .entry)) frame (now (name .entry))) ⌝ }
-    ensures { λ _. ⌜ now (out .exit) ≡ listedOut (lookup (now (image .entry)) frame (now (name .entry))) (now (out .entry)) ⌝ }
+    ensures number { λ r. ⌜ r ≡ listedNumber (lookup (now (image .entry)) frame (now (name .entry))) ⌝ }
+    ensures out { λ _. ⌜ now (out .exit) ≡ listedOut (lookup (now (image .entry)) frame (now (name .entry))) (now (out .entry)) ⌝ }
 {
     put_entry(lookup(image, frame, name), out)
 }
@@ -61,8 +61,8 @@ pub extern "C" fn dialmoth_lookup(image: &[u8], frame: u64, name: &[u8], out: &m
 // Start, length.
 #[no_mangle]
 pub extern "C" fn dialmoth_chunk(image: &[u8], frame: u64, name: &[u8], out: &mut [u64; 2]) -> u64
-    ensures { λ r. ⌜ r ≡ placeNumber (chunkPlace (now (image .entry)) frame (now (name .entry))) ⌝ }
-    ensures { λ _. ⌜ now (out .exit) ≡ placeOut (chunkPlace (now (image .entry)) frame (now (name .entry))) (now (out .entry)) ⌝ }
+    ensures number { λ r. ⌜ r ≡ placeNumber (chunkPlace (now (image .entry)) frame (now (name .entry))) ⌝ }
+    ensures out { λ _. ⌜ now (out .exit) ≡ placeOut (chunkPlace (now (image .entry)) frame (now (name .entry))) (now (out .entry)) ⌝ }
 {
     put_part(chunk_place(image, frame, name), out)
 }
@@ -76,8 +76,8 @@ pub extern "C" fn dialmoth_element(
     k: u64,
     out: &mut [u64; 2],
 ) -> u64
-    ensures { λ r. ⌜ r ≡ elementNumber (element (now (image .entry)) frame (now (name .entry)) k) ⌝ }
-    ensures { λ _. ⌜ now (out .exit) ≡ elementOut (element (now (image .entry)) frame (now (name .entry)) k) (now (out .entry)) ⌝ }
+    ensures number { λ r. ⌜ r ≡ elementNumber (element (now (image .entry)) frame (now (name .entry)) k) ⌝ }
+    ensures out { λ _. ⌜ now (out .exit) ≡ elementOut (element (now (image .entry)) frame (now (name .entry)) k) (now (out .entry)) ⌝ }
 {
     put_element(element(image, frame, name, k), out)
 }

@@ -15,8 +15,8 @@ ghost use Rattle.gsd_out.specs.Out.{openingOut, listedOut, placeOut, ele
 // Frames, names, entries.
 pub fn put_counts(answer: Opening, out: &mut [u64; 3]) -> u64
     requires { ⌜ (answer ≡ Opening.Refused 0 → ⊥) ⌝ }
-    ensures { λ r. ⌜ r ≡ openingNumber answer ⌝ }
-    ensures { λ _. ⌜ now (out .exit) ≡ openingOut answer (now (out .entry)) ⌝ }
+    ensures number { λ r. ⌜ r ≡ openingNumber answer ⌝ }
+    ensures out { λ _. ⌜ now (out .exit) ≡ openingOut answer (now (out .entry)) ⌝ }
 {
     match answer {
         Opening::Open(c) => {
@@ -30,8 +30,8 @@ pub fn put_counts(answer: Opening, out: &mut [u64; 3]) -> u64
 // The seven numbers of an entry.
 pub fn put_entry(answer: Listed, out: &mut [u64; 7]) -> u64
     requires { ⌜ (answer ≡ Listed.Refused 0 → ⊥) ⌝ }
-    ensures { λ r. ⌜ r ≡ listedNumber answer ⌝ }
-    ensures { λ _. ⌜ now (out .exit) ≡ listedOut answer (now (out .entry)) ⌝ }
+    ensures number { λ r. ⌜ r ≡ listedNumber answer ⌝ }
+    ensures out { λ _. ⌜ now (out .exit) ≡ listedOut answer (now (out .entry)) ⌝ }
 {
     match answer {
         Listed::Found(e) => {
@@ -53,8 +53,8 @@ pub fn put_entry(answer: Listed, out: &mut [u64; 7]) -> u64
 // Start and length.
 pub fn put_part(answer: Place, out: &mut [u64; 2]) -> u64
     requires { ⌜ (answer ≡ Place.Refused 0 → ⊥) ⌝ }
-    ensures { λ r. ⌜ r ≡ placeNumber answer ⌝ }
-    ensures { λ _. ⌜ now (out .exit) ≡ placeOut answer (now (out .entry)) ⌝ }
+    ensures number { λ r. ⌜ r ≡ placeNumber answer ⌝ }
+    ensures out { λ _. ⌜ now (out .exit) ≡ placeOut answer (now (out .entry)) ⌝ }
 {
     match answer {
         Place::At(p) => {
@@ -78,8 +78,8 @@ fn bits_of(number: i64) -> u64
 // The kind and the bits.
 pub fn put_element(answer: Element, out: &mut [u64; 2]) -> u64
     requires { ⌜ (answer ≡ Element.Refused 0 → ⊥) ⌝ }
-    ensures { λ r. ⌜ r ≡ elementNumber answer ⌝ }
-    ensures { λ _. ⌜ now (out .exit) ≡ elementOut answer (now (out .entry)) ⌝ }
+    ensures number { λ r. ⌜ r ≡ elementNumber answer ⌝ }
+    ensures out { λ _. ⌜ now (out .exit) ≡ elementOut answer (now (out .entry)) ⌝ }
 {
     match answer {
         Element::Unsigned(number) => {
