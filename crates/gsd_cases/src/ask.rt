@@ -1,20 +1,20 @@
-// What a table asks of an image.
-use crate::make::part;
-use crate::words;
+// What a table asks of an image by the calls that read: each takes its numbers and its name from the line's last ones, and
+// puts its values into the array that is as long as they are many.
 use dialmoth::dialmoth_chunk;
 use dialmoth::dialmoth_element;
 use dialmoth::dialmoth_entry;
 use dialmoth::dialmoth_lookup;
 use dialmoth::dialmoth_name;
 use dialmoth::dialmoth_open;
-use std::num::wrapping_add_u64;
+use gsd_lines::Numbers;
+use gsd_lines::part;
+use gsd_lines::words;
 
-// The number of a call that reads; its values go to the array that is as long as they are many.
+// The number of a call that reads.
 pub fn ask(
     k: usize,
-    a: u64,
-    b: u64,
-    name: &[u8],
+    n: Numbers,
+    table: &[u8],
     image: &[u8],
     two: &mut [u64; 2],
     three: &mut [u64; 3],
@@ -22,59 +22,11 @@ pub fn ask(
 ) -> u64 {
     match k {
         words::OPEN => dialmoth_open(image, three),
-        words::NAME => dialmoth_name(image, b, two),
-        words::CHUNK => dialmoth_chunk(image, a, name, two),
-        words::ELEMENT => dialmoth_element(image, a, name, b, two),
-        words::ENTRY => dialmoth_entry(image, b, seven),
-        words::LOOKUP => dialmoth_lookup(image, a, name, seven),
-        _ => 0,
-    }
-}
-
-fn greater(a: u64, b: u64) -> u64 {
-    if a < b {
-        return b;
-    }
-    a
-}
-
-// The blocks of an image that opens are short.
-fn end_of_use(image: &[u8]) -> u64 {
-    let mut starts = [0u32; gsd_names::PLACES];
-    let s = gsd_open::survey_of(image, &mut starts);
-    let index = wrapping_add_u64(s.layout.index, 32 * (s.layout.slots % 65536));
-    let names = wrapping_add_u64(s.layout.namelist, 64 * (s.layout.segments % 65536));
-    let end = greater(256, greater(s.chunks_end, greater(index, names)));
-    wrapping_add_u64(end, 7) / 8 * 8
-}
-
-fn word_at(image: &[u8; 8192], at: u64) -> u64 {
-    if 8184 < at {
-        return 18446744073709551615;
-    }
-    gsd_bytes::u64_at(image, at as usize)
-}
-
-fn has(image: &[u8], at: u64, text: &[u8]) -> u64 {
-    let to = wrapping_add_u64(at, text.len() as u64);
-    check::same(part(image, 65536 * (at % 65536) + to % 65536), text) as u64
-}
-
-// What stands in an image.
-pub fn look(
-    k: usize,
-    a: u64,
-    b: u64,
-    text: &[u8],
-    image: &[u8; 8192],
-    kept: &[u8; 8192],
-    len: u64,
-) -> u64 {
-    match k {
-        words::END => end_of_use(part(image, len)),
-        words::WORD_AT => word_at(image, b),
-        words::HAS => has(image, a, text),
-        words::SAME => check::same(image, kept) as u64,
+        words::NAME => dialmoth_name(image, n.e, two),
+        words::CHUNK => dialmoth_chunk(image, n.d, part(table, n.e), two),
+        words::ELEMENT => dialmoth_element(image, n.c, part(table, n.d), n.e, two),
+        words::ENTRY => dialmoth_entry(image, n.e, seven),
+        words::LOOKUP => dialmoth_lookup(image, n.d, part(table, n.e), seven),
         _ => 0,
     }
 }

@@ -1,10 +1,11 @@
-// The calls that change an image.
-use crate::line::Numbers;
-use crate::make::part;
-use crate::make::within;
-use crate::words;
+// The calls that change an image, on the part of it that is lent; create takes its texts from the table, append its
+// stores' limit from the line.
 use dialmoth::dialmoth_append;
 use dialmoth::dialmoth_create;
+use gsd_lines::Numbers;
+use gsd_lines::part;
+use gsd_lines::within;
+use gsd_lines::words;
 
 fn append(image: &mut [u8], len: u64, sheet: &[u8], limit: u64, two: &mut [u64; 2]) -> u64 {
     let len = within(len, image.len());

@@ -1,15 +1,11 @@
 // Runs tables of cases, the files that its arguments name, and prints each answer that differs. A table has a line for each
-// thing that is made or asked (words.rt lists the forms); "#" begins a case, "--" a comment.
+// thing that is made or asked (words.rt of gsd_lines lists the forms); "#" begins a case, "--" a comment.
 mod ask;
 mod call;
-mod line;
-mod make;
 mod run;
-mod tally;
-mod words;
 
-use libc::STDOUT_FILENO;
-use tally::State;
+use gsd_tables::tally;
+use gsd_tables::tally::State;
 
 // The greatest table.
 const MOST: usize = 65535;
@@ -24,10 +20,7 @@ fn run_file(path: &[u8]) -> State {
     let n = io::read_full(fd, &mut table);
     libc::close(fd);
     if MOST < n {
-        io::write_all(STDOUT_FILENO, b"too long: ");
-        io::write_all(STDOUT_FILENO, path);
-        io::write_all(STDOUT_FILENO, b"\n");
-        return tally::lost();
+        return tally::too_long(path);
     }
     run::run(&mut table, n, path)
 }

@@ -1,58 +1,22 @@
-// A table run line by line, on one image and one sheet.
+// A table run line by line, on one image, the copy of it that is kept and one sheet; what a line asks is answered by a look
+// at the image or by a call.
 use crate::ask::ask;
-use crate::ask::look;
 use crate::call::call;
-use crate::line::Numbers;
-use crate::line::read_line;
-use crate::make::keep;
-use crate::make::make_image;
-use crate::make::make_sheet;
-use crate::make::part;
-use crate::tally;
-use crate::tally::State;
-use crate::words;
-use std::num::wrapping_add_u64;
-ghost use Prim.Native.Nat.{_≤_, _<_};
+use gsd_lines::Line;
+use gsd_lines::line_end;
+use gsd_lines::part;
+use gsd_lines::read_line;
+use gsd_lines::words;
+use gsd_tables::look::look;
+use gsd_tables::make_line;
+use gsd_tables::tally;
+use gsd_tables::tally::State;
+ghost use Prim.Native.Nat.{_≤_};
 ghost use lib.ListN.{length};
 
-// The lengths after a word that makes something. A text is 65,536 times its start, and its end.
-fn made(s: State, k: usize, n: u64) -> State {
-    let mut s = s;
-    let size = std::num::wrapping_sub_u64(n % 65536, n / 65536 % 65536);
-    match k {
-        words::IMAGE => s.len = n,
-        words::USE => s.len = n,
-        words::SHEET => s.end = size,
-        words::MORE => s.end = wrapping_add_u64(s.end, size),
-        words::CUT => s.end = n,
-        _ => {}
-    }
-    s
-}
-
-fn make_line(
-    k: usize,
-    n: Numbers,
-    table: &[u8],
-    image: &mut [u8; 8192],
-    kept: &mut [u8; 8192],
-    sheet: &mut [u8; 8192],
-    s: State,
-    path: &[u8],
-) -> State {
-    let text = part(table, n.e);
-    let bad = make_image(k, n.d, n.e, text, image);
-    let worse = make_sheet(k, n.d, n.e, text, sheet, s.end);
-    keep(k, image, kept);
-    if wrapping_add_u64(bad, worse) != 0 {
-        return tally::differs(s, path, b" cannot be put");
-    }
-    made(s, k, n.e)
-}
-
+// The number that a line asks for; a call's values go to the arrays.
 fn number_of(
-    k: usize,
-    n: Numbers,
+    line: Line,
     table: &[u8],
     image: &mut [u8; 8192],
     kept: &[u8; 8192],
@@ -62,42 +26,19 @@ fn number_of(
     three: &mut [u64; 3],
     seven: &mut [u64; 7],
 ) -> u64 {
+    let k = line.word;
     if k < words::CREATE {
-        return look(k, n.d, n.e, part(table, n.e), image, kept, len);
+        return look(line, table, image, kept, len);
     }
     if k < words::NAME {
-        return call(k, n, table, image, len, sheet, two);
+        return call(k, line.numbers, table, image, len, sheet, two);
     }
-    if k == words::ELEMENT {
-        return ask(
-            k,
-            n.c,
-            n.e,
-            part(table, n.d),
-            part(image, len),
-            two,
-            three,
-            seven,
-        );
-    }
-    ask(
-        k,
-        n.d,
-        n.e,
-        part(table, n.e),
-        part(image, len),
-        two,
-        three,
-        seven,
-    )
+    ask(k, line.numbers, table, part(image, len), two, three, seven)
 }
 
-// The answer is told by the sign = at a place of the table up to the line's end.
 fn ask_line(
-    k: usize,
-    n: Numbers,
+    line: Line,
     table: &[u8],
-    expected: u64,
     image: &mut [u8; 8192],
     kept: &[u8; 8192],
     sheet: &[u8],
@@ -109,8 +50,7 @@ fn ask_line(
     let mut seven = [0u64; 7];
     let mut text = [0u8; 8192];
     let number = number_of(
-        k,
-        n,
+        line,
         table,
         image,
         kept,
@@ -120,8 +60,8 @@ fn ask_line(
         &mut three,
         &mut seven,
     );
-    let end = tally::answer(k, number, &two, &three, &seven, &mut text);
-    tally::compared(s, path, &text, end, part(table, expected))
+    let end = tally::answer(line.word, number, &two, &three, &seven, &mut text);
+    tally::compared(s, path, &text, end, part(table, line.answer))
 }
 
 // One line, which is neither empty nor a title nor a comment.
@@ -137,28 +77,14 @@ fn run_words(
 ) -> State
     requires inside { ⌜ to ≤ length (now table) ⌝ }
 {
-    let mut form = *b"                ";
-    let line = read_line(table, from, to, &mut form);
-    let k = words::known(&form);
-    if k == words::UNKNOWN {
+    let line = read_line(table, from, to);
+    if line.word == words::UNKNOWN {
         return tally::differs(s, path, b" not understood");
     }
-    let n = line.numbers;
-    if k < words::END {
-        return make_line(k, n, table, image, kept, sheet, s, path);
+    if line.word < words::END {
+        return make_line(line, table, image, kept, sheet, s, path);
     }
-    let answer = 65536 * (wrapping_add_u64(line.value, 1) % 65536) + (to % 65536) as u64;
-    ask_line(
-        k,
-        n,
-        table,
-        answer,
-        image,
-        kept,
-        part(sheet, s.end),
-        s,
-        path,
-    )
+    ask_line(line, table, image, kept, part(sheet, s.end), s, path)
 }
 
 fn run_line(
@@ -183,23 +109,6 @@ fn run_line(
         b'-' => s,
         _ => run_words(table, from, to, image, kept, sheet, s, path),
     }
-}
-
-// Where the line from a place ends.
-fn line_end(table: &[u8], from: usize, n: usize) -> usize
-    requires ordered { ⌜ from ≤ n ⌝ }
-    requires inside { ⌜ n ≤ length (now table) ⌝ }
-    ensures behind { λ r. ⌜ from ≤ r ⌝ }
-    ensures bound { λ r. ⌜ r ≤ n ⌝ }
-{
-    let mut i = from;
-    while i < n {
-        if table[i] == b'\n' {
-            return i;
-        }
-        i += 1;
-    }
-    n
 }
 
 // The first n bytes of a table.

@@ -1,14 +1,15 @@
--- `gsd_cases::tally::say_values` is safe and ends.
+-- `gsd_tables::tally::say_values` is safe and ends.
 use Prim.Native.Nat.{_-_}
+use lib.ListN.{length}
 use borrow.Author.Needs.{needs}
-use Rattle.gsd_cases.proofs.tally.say_values.Statement.{statement}
-use Rattle.gsd_cases.proofs.tally.say_values.Tie as tie
+use Rattle.gsd_tables.proofs.tally.say_values.Statement.{statement}
+use Rattle.gsd_tables.proofs.tally.say_values.Tie as tie
 
 abbrev Inv-loop : tie.InvT-loop
-Inv-loop text₀ at values count end₀ i₀ text end i = Unit {0}
+Inv-loop text₀ at values end₀ i₀ text end i = Unit {0}
 
 abbrev μ-loop : tie.MeasureT-loop
-μ-loop text₀ at values count end₀ i₀ text end i = count - i
+μ-loop text₀ at values end₀ i₀ text end i = length values - i
 
 loop-holds : tie.Need-loop-holds Inv-loop μ-loop
 loop-holds c = search needs

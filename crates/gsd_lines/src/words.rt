@@ -76,21 +76,11 @@ pub const LOOKUP: usize = 22;
 
 pub const UNKNOWN: usize = 23;
 
-fn form_at(forms: &[u8], at: usize, form: &[u8; 16]) -> bool {
-    if forms.len() < 16 {
-        return false;
-    }
-    if forms.len() - 16 < at {
-        return false;
-    }
-    gsd_bytes::same_part(forms, at, form, 0, 16)
-}
-
 // The place of a form in the list.
 pub fn known(form: &[u8; 16]) -> usize {
     let mut k = 0;
     while k < UNKNOWN {
-        if form_at(&FORMS, 16 * k, form) {
+        if gsd_bytes::same_part(&FORMS, 16 * k, form, 0, 16) {
             return k;
         }
         k += 1;

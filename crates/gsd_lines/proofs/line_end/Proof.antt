@@ -1,8 +1,9 @@
--- `gsd_cases::run::line_end` meets its contract.
+-- `gsd_lines::line_end` meets its contract.
 use Prim.Native.Nat.{_≤_, _-_}
+use native.Mathlib.Omega.{arith}
 use borrow.Author.Needs.{needs}
-use Rattle.gsd_cases.proofs.run.line_end.Statement.{statement}
-use Rattle.gsd_cases.proofs.run.line_end.Tie as tie
+use Rattle.gsd_lines.proofs.line_end.Statement.{statement}
+use Rattle.gsd_lines.proofs.line_end.Tie as tie
 
 abbrev Inv-loop : tie.InvT-loop
 Inv-loop table from n i₀ i = (from ≤ i) × (i ≤ n)
@@ -17,7 +18,7 @@ shared-slice-read-if1 : tie.Need-shared-slice-read-if1 Inv-loop μ-loop
 shared-slice-read-if1 c = search needs
 
 returns : tie.Need-returns Inv-loop μ-loop
-returns c = search needs
+returns c = (omega arith, omega arith)
 
 add-i : tie.Need-add-i Inv-loop μ-loop
 add-i c = search needs
@@ -29,7 +30,7 @@ loop-again : tie.Need-loop-again Inv-loop μ-loop
 loop-again c = search needs
 
 returns-2 : tie.Need-returns-2 Inv-loop μ-loop
-returns-2 c = search needs
+returns-2 c = (omega arith, omega arith)
 
 pub line-end-spec : {M : Type 1} → statement M
 line-end-spec =

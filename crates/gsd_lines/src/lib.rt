@@ -1,8 +1,33 @@
-// A line of a table, read byte by byte: its form and its numbers. Numbers are decimal and below 2^64. In a text a capital
-// letter stands for the byte that is its place in the alphabet, and @ for a zero, so that every line is plain to read.
+// A line of a table of cases, read byte by byte: its word and its numbers. Numbers are decimal and below 2^64. In a text a
+// capital letter stands for the byte that is its place in the alphabet, and @ for a zero, so that every line is plain to read.
+pub mod words;
 
+use std::num::wrapping_add_u64;
+use words::known;
 ghost use Prim.Native.Nat.{_≤_};
 ghost use lib.ListN.{length};
+
+// A text is a number: 65,536 times where it starts in the table, and where it ends.
+pub fn span(start: u64, end: u64) -> u64 {
+    65536 * (start % 65536) + end % 65536
+}
+
+// No more than there are.
+pub fn within(len: u64, most: usize) -> usize
+    ensures { λ r. ⌜ r ≤ most ⌝ }
+{
+    if (most as u64) < len {
+        return most;
+    }
+    len as usize
+}
+
+// A text, or what of it lies in the bytes.
+pub fn part(bytes: &[u8], text: u64) -> &[u8] {
+    let to = within(text % 65536, bytes.len());
+    let from = within(text / 65536, to);
+    &bytes[from..to]
+}
 
 // What the next byte belongs to.
 const PLAIN: u8 = 0;
@@ -13,8 +38,8 @@ const TEXT: u8 = 2;
 
 const ANSWER: u8 = 3;
 
-// A number's value, where a text starts or where the sign = stands; and what the last byte adds to the form: a letter, 0
-// for a number, ' for a text, the sign =, ! for what cannot be read, or nothing.
+// A number's value, or where a text or an answer starts; and what the last byte adds to the form: a letter, 0 for a number,
+// ' for a text, the sign =, ! for what cannot be read, or nothing.
 struct Reader {
     mode: u8,
     value: u64,
@@ -27,11 +52,12 @@ fn reads(mode: u8, value: u64, sign: u8) -> Reader {
     Reader { mode, value, sign }
 }
 
-fn plain(c: u8, i: u64) -> Reader {
+// A text or an answer starts behind its sign.
+fn plain(c: u8, behind: u64) -> Reader {
     match c {
         b' ' => reads(PLAIN, 0, NOTHING),
-        b'\'' => reads(TEXT, std::num::wrapping_add_u64(i, 1), NOTHING),
-        b'=' => reads(ANSWER, i, c),
+        b'\'' => reads(TEXT, behind, NOTHING),
+        b'=' => reads(ANSWER, behind, c),
         b'0'..=b'9' => reads(NUMBER, (c - 48) as u64, NOTHING),
         _ => reads(PLAIN, 0, c),
     }
@@ -52,19 +78,18 @@ fn number(value: u64, c: u8) -> Reader {
     }
 }
 
-// A text is a number too: 65,536 times where it starts in the table, and where it ends.
 fn text(start: u64, c: u8, i: u64) -> Reader {
     if c != b'\'' {
         return reads(TEXT, start, NOTHING);
     }
-    reads(PLAIN, 65536 * (start % 65536) + i % 65536, c)
+    reads(PLAIN, span(start, i), c)
 }
 
 // With the byte c, which stands at i.
 fn read(r: Reader, c: u8, i: u64) -> Reader {
     let mode = r.mode;
     match mode {
-        PLAIN => plain(c, i),
+        PLAIN => plain(c, wrapping_add_u64(i, 1)),
         NUMBER => number(r.value, c),
         TEXT => text(r.value, c, i),
         _ => reads(mode, r.value, NOTHING),
@@ -106,11 +131,11 @@ fn formed(form: &mut [u8; 16], len: usize, sign: u8) -> usize {
     len + 1
 }
 
-// A line's form has so many signs; its last value is the place of the sign =, where it has one.
+// A line's word, by its place in the list of words; and the text of its answer, which the sign = tells.
 pub struct Line {
-    pub size: usize,
+    pub word: usize,
     pub numbers: Numbers,
-    pub value: u64,
+    pub answer: u64,
 }
 
 fn byte_of(c: u8) -> u8 {
@@ -121,9 +146,10 @@ fn byte_of(c: u8) -> u8 {
 }
 
 // The line from a place up to its newline; its letters become the bytes that they stand for.
-pub fn read_line(table: &mut [u8], from: usize, to: usize, form: &mut [u8; 16]) -> Line
+pub fn read_line(table: &mut [u8], from: usize, to: usize) -> Line
     requires { ⌜ to ≤ length (now table) ⌝ }
 {
+    let mut form = *b"                ";
     let mut r = reads(PLAIN, 0, NOTHING);
     let mut n = Numbers {
         a: 0,
@@ -139,13 +165,31 @@ pub fn read_line(table: &mut [u8], from: usize, to: usize, form: &mut [u8; 16]) 
         table[i] = byte_of(c);
         r = read(r, c, i as u64);
         n = with(n, r.sign, r.value);
-        len = formed(form, len, r.sign);
+        len = formed(&mut form, len, r.sign);
         i += 1;
     }
     r = read(r, b' ', to as u64);
+    formed(&mut form, len, r.sign);
     Line {
-        size: formed(form, len, r.sign),
+        word: known(&form),
         numbers: with(n, r.sign, r.value),
-        value: r.value,
+        answer: span(r.value, to as u64),
     }
+}
+
+// Where the line from a place ends.
+pub fn line_end(table: &[u8], from: usize, n: usize) -> usize
+    requires ordered { ⌜ from ≤ n ⌝ }
+    requires inside { ⌜ n ≤ length (now table) ⌝ }
+    ensures behind { λ r. ⌜ from ≤ r ⌝ }
+    ensures bound { λ r. ⌜ r ≤ n ⌝ }
+{
+    let mut i = from;
+    while i < n {
+        if table[i] == b'\n' {
+            return i;
+        }
+        i += 1;
+    }
+    n
 }

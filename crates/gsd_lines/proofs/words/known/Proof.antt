@@ -1,8 +1,8 @@
--- `gsd_cases::words::known` is safe and ends.
+-- `gsd_lines::words::known` is safe and ends.
 use Prim.Native.Nat.{_-_}
 use borrow.Author.Needs.{needs}
-use Rattle.gsd_cases.proofs.words.known.Statement.{statement}
-use Rattle.gsd_cases.proofs.words.known.Tie as tie
+use Rattle.gsd_lines.proofs.words.known.Statement.{statement}
+use Rattle.gsd_lines.proofs.words.known.Tie as tie
 
 abbrev Inv-loop : tie.InvT-loop
 Inv-loop form k₀ t3 k = Unit {0}
@@ -13,14 +13,14 @@ abbrev μ-loop : tie.MeasureT-loop
 loop-holds : tie.Need-loop-holds Inv-loop μ-loop
 loop-holds c = search needs
 
-slice-aggregate-form-at : tie.Need-slice-aggregate-form-at Inv-loop μ-loop
-slice-aggregate-form-at c = search needs
+slice-aggregate-same-part : tie.Need-slice-aggregate-same-part Inv-loop μ-loop
+slice-aggregate-same-part c = search needs
 
-mul-form-at : tie.Need-mul-form-at Inv-loop μ-loop
-mul-form-at c = search needs
+mul-same-part : tie.Need-mul-same-part Inv-loop μ-loop
+mul-same-part c = search needs
 
-form-at-requires : tie.Need-form-at-requires Inv-loop μ-loop
-form-at-requires c κs = search needs
+same-part-requires : tie.Need-same-part-requires Inv-loop μ-loop
+same-part-requires c κs = search needs
 
 returns : tie.Need-returns Inv-loop μ-loop
 returns c = search needs
@@ -44,9 +44,9 @@ known-spec =
     Inv-loop
     μ-loop
     loop-holds
-    slice-aggregate-form-at
-    mul-form-at
-    form-at-requires
+    slice-aggregate-same-part
+    mul-same-part
+    same-part-requires
     returns
     add-k
     loop-less

@@ -1,10 +1,10 @@
--- `gsd_cases::line::read_line` is safe and ends: the table keeps its length.
+-- `gsd_lines::read_line` is safe and ends: the table keeps its length.
 use Prim.Native.Nat.{_≤_, _-_}
 use mathlib.Core.Path.{_≡_}
 use lib.ListN.{length}
 use borrow.Author.Needs.{needs}
-use Rattle.gsd_cases.proofs.line.read_line.Statement.{statement}
-use Rattle.gsd_cases.proofs.line.read_line.Tie as tie
+use Rattle.gsd_lines.proofs.read_line.Statement.{statement}
+use Rattle.gsd_lines.proofs.read_line.Tie as tie
 
 abbrev Inv-loop : tie.InvT-loop
 Inv-loop table₀ from to form₀ r₀ n₀ len₀ i₀ table form r n len i = (to ≤ length table) × (length table ≡ length table₀)
@@ -51,8 +51,14 @@ read-requires-2 c κs = search needs
 formed-requires-2 : tie.Need-formed-requires-2 Inv-loop μ-loop
 formed-requires-2 c κs = search needs
 
+known-requires : tie.Need-known-requires Inv-loop μ-loop
+known-requires c κs = search needs
+
 with-requires-2 : tie.Need-with-requires-2 Inv-loop μ-loop
 with-requires-2 c κs = search needs
+
+span-requires : tie.Need-span-requires Inv-loop μ-loop
+span-requires c κs = search needs
 
 same-length : tie.Need-same-length Inv-loop μ-loop
 same-length c = search needs
@@ -79,6 +85,8 @@ read-line-spec =
     loop-again
     read-requires-2
     formed-requires-2
+    known-requires
     with-requires-2
+    span-requires
     same-length
     returns)

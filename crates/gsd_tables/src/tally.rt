@@ -1,8 +1,9 @@
-// Answers compared, counted and printed.
-use crate::make::part;
+// Answers made into text, compared with what a table expects, counted and printed; and the state that a table carries from
+// line to line.
 use crate::make::put_byte;
 use crate::make::put_text;
-use crate::words;
+use gsd_lines::part;
+use gsd_lines::words;
 use libc::STDOUT_FILENO;
 use std::num::wrapping_add_u64;
 
@@ -37,13 +38,17 @@ pub fn next(s: State) -> State {
     s
 }
 
+fn said(number: u64, what: &[u8]) {
+    io::print_decimal(STDOUT_FILENO, number);
+    io::write_all(STDOUT_FILENO, what);
+}
+
 // Prints what a line answers, and counts it as wrong.
 pub fn differs(s: State, path: &[u8], says: &[u8]) -> State {
     let mut s = s;
     io::write_all(STDOUT_FILENO, path);
     io::write_all(STDOUT_FILENO, b":");
-    io::print_decimal(STDOUT_FILENO, s.line);
-    io::write_all(STDOUT_FILENO, b":");
+    said(s.line, b":");
     io::write_all(STDOUT_FILENO, says);
     io::write_all(STDOUT_FILENO, b"\n");
     s.wrong = wrapping_add_u64(s.wrong, 1);
@@ -78,11 +83,6 @@ pub fn compared(s: State, path: &[u8], text: &[u8; 8192], end: u64, expected: &[
     differs(s, path, got)
 }
 
-fn said(number: u64, what: &[u8]) {
-    io::print_decimal(STDOUT_FILENO, number);
-    io::write_all(STDOUT_FILENO, what);
-}
-
 // The counts of a table, or of all.
 pub fn sums(name: &[u8], s: State) {
     io::write_all(STDOUT_FILENO, name);
@@ -115,6 +115,14 @@ pub fn lost() -> State {
     s
 }
 
+// One that is too long.
+pub fn too_long(path: &[u8]) -> State {
+    io::write_all(STDOUT_FILENO, b"too long: ");
+    io::write_all(STDOUT_FILENO, path);
+    io::write_all(STDOUT_FILENO, b"\n");
+    lost()
+}
+
 // A space and a number, from a place of a text on; where it ends.
 fn say(text: &mut [u8; 8192], at: u64, number: u64) -> u64 {
     let mut digits = [0u8; 20];
@@ -124,33 +132,34 @@ fn say(text: &mut [u8; 8192], at: u64, number: u64) -> u64 {
     wrapping_add_u64(at, wrapping_add_u64(size as u64, 1))
 }
 
-// And the first of some values behind it.
-fn say_values(text: &mut [u8; 8192], at: u64, values: &[u64], count: usize) -> u64 {
+// And some values behind it.
+fn say_values(text: &mut [u8; 8192], at: u64, values: &[u64]) -> u64 {
     let mut end = at;
     let mut i = 0;
-    while i < count {
-        if i < values.len() {
-            end = say(text, end, values[i]);
-        }
+    while i < values.len() {
+        end = say(text, end, values[i]);
         i += 1;
     }
     end
 }
 
-fn many(k: usize, from: usize, to: usize, number: u64, values: usize) -> usize {
+// How many values are told: those of a call whose number is 0, and of every append.
+fn told(k: usize, number: u64) -> usize {
+    if k == words::APPEND {
+        return 2;
+    }
     if number != 0 {
         return 0;
     }
-    if k < from {
-        return 0;
+    match k {
+        words::NAME | words::CHUNK | words::ELEMENT => 2,
+        words::OPEN => 3,
+        words::ENTRY | words::LOOKUP => 7,
+        _ => 0,
     }
-    if to < k {
-        return 0;
-    }
-    values
 }
 
-// A call's number, and its values where that is 0, of an append always; the answer is where the text ends.
+// A call's number and the values that are told; the answer is where the text ends.
 pub fn answer(
     k: usize,
     number: u64,
@@ -160,23 +169,10 @@ pub fn answer(
     text: &mut [u8; 8192],
 ) -> u64 {
     let at = say(text, 0, number);
-    let at = say_values(text, at, two, many(k, words::APPEND, words::APPEND, 0, 2));
-    let at = say_values(
-        text,
-        at,
-        two,
-        many(k, words::NAME, words::ELEMENT, number, 2),
-    );
-    let at = say_values(
-        text,
-        at,
-        three,
-        many(k, words::OPEN, words::OPEN, number, 3),
-    );
-    say_values(
-        text,
-        at,
-        seven,
-        many(k, words::ENTRY, words::LOOKUP, number, 7),
-    )
+    match told(k, number) {
+        2 => say_values(text, at, two),
+        3 => say_values(text, at, three),
+        7 => say_values(text, at, seven),
+        _ => at,
+    }
 }
