@@ -16,10 +16,10 @@ use Rattle.gsd_stores.specs.Plan.{bodyOffset}
 use Rattle.gsd_stores.proofs.Rows.{offset-first, offset-next}
 use Rattle.gsd_runs.specs.Runs.{half}
 use Rattle.gsd_sheet.specs.Rows.{Located}
-use Rattle.gsd_parts.specs.RowIds.{RowNamed}
-use Rattle.gsd_parts.specs.Filling.{Laid, dataOffset, nameOffset}
+use Rattle.gsd_ids.specs.RowIds.{RowNamed}
+use Rattle.gsd_fill.specs.Filling.{Laid, dataOffset, nameOffset}
 use Rattle.gsd_sheet.proofs.Rows.{name-next, located-room, located-end}
-use Rattle.gsd_parts.proofs.Filling.{offset-none, offset-more, name-none, name-more}
+use Rattle.gsd_fill.proofs.Filling.{offset-none, offset-more, name-none, name-more}
 
 -- Where the rows lie
 

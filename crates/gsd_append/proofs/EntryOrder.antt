@@ -19,8 +19,8 @@ use Rattle.gsd_stores.proofs.Sorted.{Rising, Differing, sorted-is}
 use Rattle.gsd_stores.proofs.Rows.{new-length, new-at, new-differing, all-has}
 use Rattle.gsd_stores.proofs.Plan.{namesAfter, rowEntries, rowEntry, Planned}
 use Rattle.gsd_sheet.specs.Rows.{Filled}
-use Rattle.gsd_parts.specs.Order.{Sorted, paired}
-use Rattle.gsd_parts.specs.RowIds.{pairOf}
+use Rattle.gsd_ids.specs.Order.{Sorted, paired}
+use Rattle.gsd_ids.specs.RowIds.{pairOf}
 
 -- What holds of each element, or of each two, holds in any other order
 

@@ -40,24 +40,24 @@ use Rattle.gsd_names.specs.NameLists.{namesIn}
 use Rattle.gsd_open.specs.Surveys.{Surveyed}
 use Rattle.gsd_open.proofs.Surveys.{kept-names, many-names as survey-many}
 use Rattle.gsd_turns.specs.declared.plan.Plan.{Plan}
-use Rattle.gsd_parts.specs.declared.sites.Sites.{Sites}
-use Rattle.gsd_parts.specs.declared.fill.BodyPlaces.{BodyPlaces}
-use Rattle.gsd_parts.specs.declared.fill.NamePlaces.{NamePlaces}
-use Rattle.gsd_parts.specs.declared.fill.EntryNumbers.{EntryNumbers}
-use Rattle.gsd_parts.specs.declared.ids.Ids.{Ids}
+use Rattle.gsd_sites.specs.declared.Sites.{Sites}
+use Rattle.gsd_fill.specs.declared.BodyPlaces.{BodyPlaces}
+use Rattle.gsd_fill.specs.declared.NamePlaces.{NamePlaces}
+use Rattle.gsd_fill.specs.declared.EntryNumbers.{EntryNumbers}
+use Rattle.gsd_ids.specs.declared.Ids.{Ids}
 use Rattle.gsd_append.specs.declared.planner.Planning.{Planning}
 use Rattle.gsd_runs.specs.Runs.{half}
 use Rattle.gsd_turns.specs.Plans.{Heads, headsFrom, planFrom}
-use Rattle.gsd_parts.specs.Order.{Sorted}
-use Rattle.gsd_parts.specs.RowIds.{RowNamed, IdsFound}
+use Rattle.gsd_ids.specs.Order.{Sorted}
+use Rattle.gsd_ids.specs.RowIds.{RowNamed, IdsFound}
 use Rattle.gsd_sheet.specs.Rows.{Located}
-use Rattle.gsd_parts.specs.Filling.{Laid, dataOffset, nameOffset, BodiesPlaced, NamesPlaced, EntriesFilled}
+use Rattle.gsd_fill.specs.Filling.{Laid, dataOffset, nameOffset, BodiesPlaced, NamesPlaced, EntriesFilled}
 use Rattle.gsd_append.specs.Matches.{HeadsMatch, BodyMatch, NameMatch, EntryMatch, Matches}
-use Rattle.gsd_parts.specs.Sites.{sitesOf, clearsOf, nameBlockOf, indexBlockOf, headsOf, Sited}
+use Rattle.gsd_sites.specs.Sites.{sitesOf, clearsOf, nameBlockOf, indexBlockOf, headsOf, Sited}
 use Rattle.gsd_append.specs.Planning.{planned, Sees, Asked, Joinable, Joined, Plans, firstName}
 use Rattle.gsd_sheet.proofs.Rows.{located-room}
 use Rattle.gsd_append.proofs.SitesMatch.{plannedSites, allBytes, allEntries, sites-names, sites-last, heads-match}
-use Rattle.gsd_parts.proofs.Filling.{name-small}
+use Rattle.gsd_fill.proofs.Filling.{name-small}
 use Rattle.gsd_append.proofs.EntryOrder.{Pair, pair-at, entry-at}
 use Rattle.gsd_append.proofs.Assembly.{located-laid, data-offset, data-end, row-within, name-offset}
 

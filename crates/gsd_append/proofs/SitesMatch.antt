@@ -8,9 +8,9 @@ use Rattle.gsd_format.specs.Names.{flat}
 use Rattle.gsd_stores.specs.View.{View, namesEnd}
 use Rattle.gsd_stores.specs.Sheet.{Row}
 use Rattle.gsd_stores.specs.Plan.{Plan, planOf, dataEnd, namesDone, finalPosition}
-use Rattle.gsd_parts.specs.declared.sites.Sites.{Sites}
+use Rattle.gsd_sites.specs.declared.Sites.{Sites}
 use Rattle.gsd_runs.specs.Runs.{number, copied}
-use Rattle.gsd_parts.specs.Sites.{ifMoved, sitesOf, clearsOf, nameBlockOf, indexBlockOf, headsOf}
+use Rattle.gsd_sites.specs.Sites.{ifMoved, sitesOf, clearsOf, nameBlockOf, indexBlockOf, headsOf}
 use Rattle.gsd_append.specs.Matches.{HeadsMatch}
 
 -- the bytes of all names and the number of all entries that a plan leads to

@@ -11,14 +11,14 @@ use Rattle.gsd_stores.specs.View.{viewOf, namesEnd}
 use Rattle.gsd_stores.specs.Sheet.{rowCount, rowsOf, sheetTest, rowAt}
 use Rattle.gsd_stores.specs.Plan.{Plan as Defined, planOf}
 use Rattle.gsd_turns.specs.declared.plan.Plan.{Plan}
-use Rattle.gsd_parts.specs.declared.sites.Sites.{Sites}
-use Rattle.gsd_parts.specs.declared.fill.BodyPlaces.{BodyPlaces}
-use Rattle.gsd_parts.specs.declared.ids.Ids.{Ids}
+use Rattle.gsd_sites.specs.declared.Sites.{Sites}
+use Rattle.gsd_fill.specs.declared.BodyPlaces.{BodyPlaces}
+use Rattle.gsd_ids.specs.declared.Ids.{Ids}
 use Rattle.gsd_open.specs.declared.survey.Survey.{Survey}
 use Rattle.gsd_append.specs.declared.planner.Planning.{Planning}
 use Rattle.gsd_sheet.specs.Rows.{Located}
-use Rattle.gsd_parts.specs.RowIds.{IdsFound}
-use Rattle.gsd_parts.specs.Filling.{NamesPlaced, EntriesFilled}
+use Rattle.gsd_ids.specs.RowIds.{IdsFound}
+use Rattle.gsd_fill.specs.Filling.{NamesPlaced, EntriesFilled}
 use Rattle.gsd_append.specs.Matches.{Matches}
 
 -- what the append is to do

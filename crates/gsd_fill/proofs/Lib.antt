@@ -1,0 +1,2 @@
+-- Laws of the plan's arrays, as the code fills them.
+pub mod Filling

@@ -1,0 +1,2 @@
+-- What the plan's arrays hold.
+pub mod Filling

@@ -1,0 +1,3 @@
+-- Laws of the places, as the code finds them.
+pub mod Growing
+pub mod Laying
