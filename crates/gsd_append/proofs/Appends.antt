@@ -20,9 +20,9 @@ use Rattle.gsd_stores.proofs.Shown.{opens-shown}
 use Rattle.gsd_stores.proofs.Moments.{stores-are}
 use Rattle.gsd_runs.specs.Exec.{steps, exec, storesOf}
 use Rattle.gsd_runs.specs.Runs.{none, half}
-use Rattle.gsd_turns.specs.declared.plan.Plan.{Plan}
+use Rattle.gsd_plan.specs.declared.Plan.{Plan}
 use Rattle.gsd_turns.specs.declared.turn.Turned.{Turned}
-use Rattle.gsd_turns.specs.Plans.{runsOf, Ready}
+use Rattle.gsd_plan.specs.Plans.{runsOf, Ready}
 use Rattle.gsd_turns.specs.Turns.{ahead, Cursor, TurnSays}
 use Rattle.gsd_append.specs.Matches.{Matches}
 use Rattle.gsd_runs.proofs.Steps.{steps-rest, exec-after, storesOf-length}

@@ -20,7 +20,7 @@ use Rattle.gsd_stores.proofs.Clear.{clear-index, clear-names}
 use Rattle.gsd_runs.specs.declared.run.Run.{Run}
 use Rattle.gsd_runs.specs.Exec.{placeOf, wordOf, stepsFrom, steps, storesOf}
 use Rattle.gsd_runs.specs.Runs.{number, copied}
-use Rattle.gsd_turns.specs.Plans.{Heads, clears}
+use Rattle.gsd_plan.specs.Plans.{Heads, clears}
 use Rattle.gsd_sites.specs.Sites.{ifMoved}
 use Rattle.gsd_append.specs.Matches.{endWord, wordsBehind, HeadsMatch}
 use Rattle.gsd_runs.proofs.Words.{cut-before, cut-behind, place-other, word-number}

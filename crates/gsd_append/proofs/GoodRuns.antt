@@ -23,12 +23,12 @@ use Rattle.gsd_stores.proofs.Places.{blocks-even}
 use Rattle.gsd_runs.specs.declared.run.Run.{Run}
 use Rattle.gsd_runs.specs.Exec.{Good, steps}
 use Rattle.gsd_runs.specs.Runs.{number, none, body, name, copied}
-use Rattle.gsd_turns.specs.declared.plan.Plan.{Plan}
-use Rattle.gsd_turns.specs.Plans.{bodyRun, nameRun, ofFour, entryRun, tab, clears, block, slots, runsOf, Ready, headsFrom}
+use Rattle.gsd_plan.specs.declared.Plan.{Plan}
+use Rattle.gsd_plan.specs.Plans.{bodyRun, nameRun, ofFour, entryRun, tab, clears, block, slots, runsOf, Ready, headsFrom}
 use Rattle.gsd_sites.specs.Sites.{ifMoved}
 use Rattle.gsd_append.specs.Matches.{nameWords, HeadsMatch, NameMatch, Matches}
 use Rattle.gsd_runs.proofs.Steps.{stepsFrom-length}
-use Rattle.gsd_turns.proofs.Plans.{runs-length}
+use Rattle.gsd_plan.proofs.Plans.{runs-length}
 use Rattle.gsd_append.proofs.Blocks.{moveRuns}
 
 -- all runs of a list are good

@@ -20,8 +20,8 @@ use Rattle.gsd_runs.specs.Runs.{none}
 use Rattle.gsd_runs.proofs.Words.{place-within, place-aligned}
 use Rattle.gsd_runs.proofs.Steps.{storesOf-at}
 use Rattle.gsd_runs.proofs.OneStore.{OneStore, one-store}
-use Rattle.gsd_turns.specs.declared.plan.Plan.{Plan}
-use Rattle.gsd_turns.specs.Plans.{runsOf}
+use Rattle.gsd_plan.specs.declared.Plan.{Plan}
+use Rattle.gsd_plan.specs.Plans.{runsOf}
 use Rattle.gsd_turns.proofs.Turns.{Reached, reached, reached-inside, reached-more, reached-step}
 use Rattle.gsd_append.specs.Matches.{Matches}
 use Rattle.gsd_append.proofs.Appends.{plan-stores, plan-count, plan-prefix, append-ready}

@@ -39,7 +39,7 @@ use Rattle.gsd_open.specs.declared.survey.Survey.{Survey}
 use Rattle.gsd_names.specs.NameLists.{namesIn}
 use Rattle.gsd_open.specs.Surveys.{Surveyed}
 use Rattle.gsd_open.proofs.Surveys.{kept-names, many-names as survey-many}
-use Rattle.gsd_turns.specs.declared.plan.Plan.{Plan}
+use Rattle.gsd_plan.specs.declared.Plan.{Plan}
 use Rattle.gsd_sites.specs.declared.Sites.{Sites}
 use Rattle.gsd_fill.specs.declared.BodyPlaces.{BodyPlaces}
 use Rattle.gsd_fill.specs.declared.NamePlaces.{NamePlaces}
@@ -47,7 +47,7 @@ use Rattle.gsd_fill.specs.declared.EntryNumbers.{EntryNumbers}
 use Rattle.gsd_ids.specs.declared.Ids.{Ids}
 use Rattle.gsd_append.specs.declared.planner.Planning.{Planning}
 use Rattle.gsd_runs.specs.Runs.{half}
-use Rattle.gsd_turns.specs.Plans.{Heads, headsFrom, planFrom}
+use Rattle.gsd_plan.specs.Plans.{Heads, headsFrom, planFrom}
 use Rattle.gsd_ids.specs.Order.{Sorted}
 use Rattle.gsd_ids.specs.RowIds.{RowNamed, IdsFound}
 use Rattle.gsd_sheet.specs.Rows.{Located}

@@ -33,8 +33,8 @@ use Rattle.gsd_stores.proofs.Rows.{offset-first, offset-next, offset-even, offs
 use Rattle.gsd_runs.specs.declared.run.Run.{Run}
 use Rattle.gsd_runs.specs.Exec.{over, steps, storesOf}
 use Rattle.gsd_runs.specs.Runs.{number, body, name}
-use Rattle.gsd_turns.specs.declared.plan.Plan.{Plan}
-use Rattle.gsd_turns.specs.Plans.{bodyRun, nameRun, ofFour, entryRun, tab}
+use Rattle.gsd_plan.specs.declared.Plan.{Plan}
+use Rattle.gsd_plan.specs.Plans.{bodyRun, nameRun, ofFour, entryRun, tab}
 use Rattle.gsd_append.specs.Matches.{BodyMatch, EntryMatch}
 use Rattle.gsd_runs.proofs.Words.{over-below, over-inside, over-above}
 use Rattle.gsd_append.proofs.Octets.{text-octets, octets-append, flat-octets, bodies-octets, index-octets}

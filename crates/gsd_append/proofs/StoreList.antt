@@ -24,8 +24,8 @@ use Rattle.gsd_stores.proofs.Moments.{ready-good}
 use Rattle.gsd_stores.proofs.Clear.{store-data}
 use Rattle.gsd_stores.proofs.Whole.{names-fit, data-fits, room-before, room-roomy, room-names, block-even}
 use Rattle.gsd_runs.specs.Exec.{steps, storesOf}
-use Rattle.gsd_turns.specs.declared.plan.Plan.{Plan}
-use Rattle.gsd_turns.specs.Plans.{Heads, bodyRun, nameRun, entryRun, tab, block, slots, runsOf}
+use Rattle.gsd_plan.specs.declared.Plan.{Plan}
+use Rattle.gsd_plan.specs.Plans.{Heads, bodyRun, nameRun, entryRun, tab, block, slots, runsOf}
 use Rattle.gsd_append.specs.Matches.{nameWords, HeadsMatch, NameMatch, Matches}
 use Rattle.gsd_append.proofs.Octets.{text-octets}
 use Rattle.gsd_append.proofs.Makes.{Makes, AnyImage, AnyStore, Always, makes-from, _⨾_}

@@ -14,8 +14,8 @@ use Rattle.gsd_stores.specs.Plan.{Plan as Defined, dataEnd, namesDone, bodyOffs
 use Rattle.gsd_stores.specs.Steps.{nameBlock, indexBlock}
 use Rattle.gsd_stores.specs.Demand3.{noRow}
 use Rattle.gsd_runs.specs.Runs.{number, copied}
-use Rattle.gsd_turns.specs.declared.plan.Plan.{Plan}
-use Rattle.gsd_turns.specs.Plans.{Heads, headsFrom}
+use Rattle.gsd_plan.specs.declared.Plan.{Plan}
+use Rattle.gsd_plan.specs.Plans.{Heads, headsFrom}
 use Rattle.gsd_sites.specs.Sites.{ifMoved}
 
 -- the word that holds the name list's end, and the words from there to the name block's end; the words that hold the names

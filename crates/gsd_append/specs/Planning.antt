@@ -10,7 +10,7 @@ use Rattle.gsd_format.specs.Opening.{verdict}
 use Rattle.gsd_stores.specs.View.{viewOf, namesEnd}
 use Rattle.gsd_stores.specs.Sheet.{rowCount, rowsOf, sheetTest, rowAt}
 use Rattle.gsd_stores.specs.Plan.{Plan as Defined, planOf}
-use Rattle.gsd_turns.specs.declared.plan.Plan.{Plan}
+use Rattle.gsd_plan.specs.declared.Plan.{Plan}
 use Rattle.gsd_sites.specs.declared.Sites.{Sites}
 use Rattle.gsd_fill.specs.declared.BodyPlaces.{BodyPlaces}
 use Rattle.gsd_ids.specs.declared.Ids.{Ids}

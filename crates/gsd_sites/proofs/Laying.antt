@@ -3,7 +3,7 @@ use mathlib.Core.Path.{_≡_, refl, _∙_, ap}
 use mathlib.Core.List.{List}
 use Prim.Native.Nat.{ℕ}
 use lib.ListN.{replicate}
-use Rattle.gsd_turns.specs.Plans.{headsFrom}
+use Rattle.gsd_plan.specs.Plans.{headsFrom}
 use Rattle.gsd_sites.specs.declared.Block.{Block}
 use Rattle.gsd_sites.specs.declared.Clears.{Clears}
 use Rattle.gsd_sites.specs.Sites.{putClears, putBlock, headsOf}

@@ -14,7 +14,7 @@ use Rattle.gsd_sites.specs.declared.Sites.{Sites}
 use Rattle.gsd_sites.specs.declared.Block.{Block}
 use Rattle.gsd_sites.specs.declared.Clears.{Clears}
 use Rattle.gsd_runs.specs.Runs.{number, none, copied}
-use Rattle.gsd_turns.specs.Plans.{Heads}
+use Rattle.gsd_plan.specs.Plans.{Heads}
 
 -- a run that a block's move needs
 abbrev pub ifMoved : Bool → Run → Run

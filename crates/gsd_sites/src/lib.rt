@@ -13,7 +13,7 @@ ghost use Rattle.gsd_format.specs.Header.{headerSize, greatestLength};
 ghost use Rattle.gsd_stores.specs.View.{alignment, indexEnd, namelistEnd};
 ghost use Rattle.gsd_stores.specs.Plan.{grown};
 ghost use Rattle.gsd_runs.specs.Runs.{number, copied};
-ghost use Rattle.gsd_turns.specs.Plans.{headsFrom};
+ghost use Rattle.gsd_plan.specs.Plans.{headsFrom};
 ghost use Rattle.gsd_sites.specs.Sites.{sitesOf, blockOf, clearsOf, nameBlockOf, indexBlockOf, putRun, putClears, putBlock, headsOf, Sited};
 use gsd_format::Layout;
 use gsd_runs::Run;

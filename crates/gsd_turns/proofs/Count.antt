@@ -10,9 +10,9 @@ use Rattle.gsd_runs.specs.declared.run.Run.{Run}
 use Rattle.gsd_runs.specs.Exec.{steps}
 use Rattle.gsd_runs.specs.Runs.{none}
 use Rattle.gsd_runs.proofs.Steps.{stepsFrom-length, steps-append}
-use Rattle.gsd_turns.specs.declared.plan.Plan.{Plan}
-use Rattle.gsd_turns.specs.Plans.{bodyRun, nameRun, entryRun, tab, clears, block, slots, runsOf, headsFrom}
-use Rattle.gsd_turns.proofs.Plans.{tab-length}
+use Rattle.gsd_plan.specs.declared.Plan.{Plan}
+use Rattle.gsd_plan.specs.Plans.{bodyRun, nameRun, entryRun, tab, clears, block, slots, runsOf, headsFrom}
+use Rattle.gsd_plan.proofs.Plans.{tab-length}
 
 -- the steps of runs in a row, and of one more run
 pub count-append : (a b : List Run) → length (steps (a ++ b)) ≡ length (steps a) + length (steps b)

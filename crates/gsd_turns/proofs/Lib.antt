@@ -1,4 +1,3 @@
--- Laws of the runs of a plan, of how many stores they make, and of turns.
-pub mod Plans
+-- Laws of how many stores the runs of a plan make, and of turns.
 pub mod Count
 pub mod Turns

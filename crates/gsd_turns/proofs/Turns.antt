@@ -14,9 +14,9 @@ use Rattle.gsd_runs.specs.declared.run.Run.{Run}
 use Rattle.gsd_runs.specs.Exec.{Good, Step, stepsFrom, steps, rest, exec, storesOf}
 use Rattle.gsd_runs.specs.Runs.{none}
 use Rattle.gsd_runs.proofs.Steps.{stepsFrom-length, rest-take, rest-drop, rest-next, rest-length, steps-rest, exec-append, exec-length, exec-after, storesOf-length}
-use Rattle.gsd_turns.specs.declared.plan.Plan.{Plan}
+use Rattle.gsd_plan.specs.declared.Plan.{Plan}
 use Rattle.gsd_turns.specs.declared.turn.Turned.{Turned}
-use Rattle.gsd_turns.specs.Plans.{runsOf, Ready}
+use Rattle.gsd_plan.specs.Plans.{runsOf, Ready}
 use Rattle.gsd_turns.specs.Turns.{ahead, Cursor, Walked, TurnSays}
 use Rattle.gsd_turns.proofs.Count.{count-cons}
 

@@ -1,3 +1,2 @@
--- Which runs a plan is, and how many of their stores a turn makes.
-pub mod Plans
+-- How many stores of a plan's runs a turn makes.
 pub mod Turns

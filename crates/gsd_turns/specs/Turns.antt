@@ -5,9 +5,9 @@ use mathlib.Core.List.{List}
 use lib.ListN.{getD, length, take, drop}
 use Rattle.gsd_runs.specs.Exec.{Step, rest, exec}
 use Rattle.gsd_runs.specs.Runs.{none}
-use Rattle.gsd_turns.specs.declared.plan.Plan.{Plan}
+use Rattle.gsd_plan.specs.declared.Plan.{Plan}
 use Rattle.gsd_turns.specs.declared.turn.Turned.{Turned}
-use Rattle.gsd_turns.specs.Plans.{runsOf}
+use Rattle.gsd_plan.specs.Plans.{runsOf}
 
 -- the steps that are still to be made at a cursor
 abbrev pub ahead : Plan → ℕ → ℕ → List Step

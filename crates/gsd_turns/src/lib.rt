@@ -1,6 +1,3 @@
-// The plan of an append as a list of runs of stores, and the loop that makes them on the image. It is leaf code of the append:
-// its functions have a `requires`.
-mod plan;
+// The loop that makes the stores of a plan's runs on the image, and their count. It is leaf code of the append: its functions
+// have a `requires`.
 pub mod turn;
-
-pub use plan::Plan;

@@ -1,6 +1,6 @@
 // The loop over the runs of a plan.
-use crate::plan::Plan;
-use crate::plan::run_at;
+use gsd_plan::Plan;
+use gsd_plan::run_at;
 use gsd_runs::Run;
 use gsd_runs::stores;
 ghost use mathlib.Core.Path.{_≡_};
@@ -8,7 +8,7 @@ ghost use Prim.Native.Nat.{_+_, _-_, _*_, _≤_, _<_, min};
 ghost use lib.ListN.{length};
 ghost use Rattle.gsd_runs.specs.Exec.{Good, stepsFrom, steps, exec};
 ghost use Rattle.gsd_runs.specs.Runs.{half};
-ghost use Rattle.gsd_turns.specs.Plans.{runsOf, Ready};
+ghost use Rattle.gsd_plan.specs.Plans.{runsOf, Ready};
 ghost use Rattle.gsd_turns.specs.Turns.{Cursor, TurnSays};
 
 // The cursor (the next run, and the next word of it) and how many stores were made.

@@ -3,7 +3,7 @@ use borrow.Author.Needs.{needs}
 use Prim.Native.Nat.{_-_}
 use mathlib.Core.Path.{_∙_}
 use native.Mathlib.Omega.{arith}
-use Rattle.gsd_turns.proofs.Plans.{runs-inside, runs-over, good-half}
+use Rattle.gsd_plan.proofs.Plans.{runs-inside, runs-over, good-half}
 use Rattle.gsd_turns.proofs.Turns.{Turning, turning-none, run-word, run-good, run-made, run-over, turn-stop, turn-end}
 use Rattle.gsd_turns.proofs.turn.turn.Statement.{statement}
 use Rattle.gsd_turns.proofs.turn.turn.Tie as tie

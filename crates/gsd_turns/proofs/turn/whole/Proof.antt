@@ -3,7 +3,7 @@ use borrow.Author.Needs.{needs}
 use Prim.Native.Nat.{_+_, _-_, _≤_}
 use mathlib.Core.Path.{_≡_, sym, _∙_, ap}
 use native.Mathlib.Omega.{arith}
-use Rattle.gsd_turns.proofs.Plans.{runs-inside, good-half}
+use Rattle.gsd_plan.proofs.Plans.{runs-inside, good-half}
 use Rattle.gsd_turns.proofs.Count.{counted, counted-none, counted-more, counted-within, counted-all}
 use Rattle.gsd_turns.proofs.turn.whole.Statement.{statement}
 use Rattle.gsd_turns.proofs.turn.whole.Tie as tie

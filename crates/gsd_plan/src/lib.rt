@@ -1,11 +1,12 @@
-// What an append will store: all its places and numbers, and the runs that follow from them.
+// Leaf code of the append: what it will store, all its places and numbers in a plan, and the runs that follow from them.
+// Its functions have a `requires`.
 use gsd_runs::Run;
 ghost use mathlib.Core.Path.{_≡_};
 ghost use Prim.Native.Nat.{_+_, _-_, _*_, _/_, _%_, _≤_, _<_};
 ghost use lib.ListN.{getD};
 ghost use Rattle.gsd_runs.specs.Exec.{Good};
 ghost use Rattle.gsd_runs.specs.Runs.{none, body, name, half};
-ghost use Rattle.gsd_turns.specs.Plans.{ofFour, entry, headAt, planFrom, runsOf};
+ghost use Rattle.gsd_plan.specs.Plans.{ofFour, entry, headAt, planFrom, runsOf};
 
 // `heads` has the eleven runs that are there once, in their order and six numbers to a run; one that is not needed has no
 // words. Row i's data lie in the sheet from body_from[i] to body_until[i] and go to body_to[i]; the j-th new name lies from
@@ -132,7 +133,7 @@ fn entry_at<'a>(
 }
 
 // The r-th run of a plan, which is lent by its parts: its arrays are not copied.
-pub(crate) fn run_at<'a>(
+pub fn run_at<'a>(
     rows: usize,
     fresh: usize,
     heads: &'a [u64; 66],

@@ -10,8 +10,8 @@ use Rattle.gsd_runs.specs.declared.run.Run.{Run}
 use Rattle.gsd_runs.specs.Exec.{Good}
 use Rattle.gsd_runs.specs.Runs.{none, half}
 use Rattle.gsd_runs.proofs.Runs.{good-more}
-use Rattle.gsd_turns.specs.declared.plan.Plan.{Plan}
-use Rattle.gsd_turns.specs.Plans.{bodyRun, nameRun, ofFour, entryRun, tab, clears, block, slots, runsOf, headAt, headsFrom, Ready}
+use Rattle.gsd_plan.specs.declared.Plan.{Plan}
+use Rattle.gsd_plan.specs.Plans.{bodyRun, nameRun, ofFour, entryRun, tab, clears, block, slots, runsOf, headAt, headsFrom, Ready}
 
 -- Tables
 

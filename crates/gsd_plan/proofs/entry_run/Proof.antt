@@ -1,7 +1,7 @@
--- `gsd_turns::plan::entry_run` meets its contract.
+-- `gsd_plan::entry_run` meets its contract.
 use borrow.Author.Needs.{needs}
-use Rattle.gsd_turns.proofs.plan.entry_run.Statement.{statement}
-use Rattle.gsd_turns.proofs.plan.entry_run.Tie as tie
+use Rattle.gsd_plan.proofs.entry_run.Statement.{statement}
+use Rattle.gsd_plan.proofs.entry_run.Tie as tie
 
 of-four-requires : tie.Need-of-four-requires
 of-four-requires c κs = search needs

@@ -5,7 +5,7 @@ use lib.ListN.{getD, length}
 use Rattle.gsd_runs.specs.declared.run.Run.{Run}
 use Rattle.gsd_runs.specs.Exec.{Good, steps}
 use Rattle.gsd_runs.specs.Runs.{number, none, body, name}
-use Rattle.gsd_turns.specs.declared.plan.Plan.{Plan}
+use Rattle.gsd_plan.specs.declared.Plan.{Plan}
 
 -- row i's data, and the j-th new name
 unfoldable pub bodyRun : Plan → ℕ → Run

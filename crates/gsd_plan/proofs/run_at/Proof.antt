@@ -1,10 +1,10 @@
--- `gsd_turns::plan::run_at` meets its contract: each group of runs is met by the number that is left behind those before it.
+-- `gsd_plan::run_at` meets its contract: each group of runs is met by the number that is left behind those before it.
 use mathlib.Core.Path.{sym, _∙_}
-use Rattle.gsd_turns.specs.Plans.{bodyRun, nameRun, entryRun}
-use Rattle.gsd_turns.proofs.Plans.{clears-at, block-at, slots-at, at-clears, at-body, at-block, at-name, at-slots, at-entry, body-fits, name-fits, entry-fits}
+use Rattle.gsd_plan.specs.Plans.{bodyRun, nameRun, entryRun}
+use Rattle.gsd_plan.proofs.Plans.{clears-at, block-at, slots-at, at-clears, at-body, at-block, at-name, at-slots, at-entry, body-fits, name-fits, entry-fits}
 use borrow.Author.Needs.{needs}
-use Rattle.gsd_turns.proofs.plan.run_at.Statement.{statement}
-use Rattle.gsd_turns.proofs.plan.run_at.Tie as tie
+use Rattle.gsd_plan.proofs.run_at.Statement.{statement}
+use Rattle.gsd_plan.proofs.run_at.Tie as tie
 
 head-at-requires : tie.Need-head-at-requires
 head-at-requires c κs = search needs

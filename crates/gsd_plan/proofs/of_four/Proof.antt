@@ -1,9 +1,9 @@
--- `gsd_turns::plan::of_four` meets its contract.
+-- `gsd_plan::of_four` meets its contract.
 use native.Mathlib.Omega.{arith}
 use mathlib.Core.Path.{_≡_, ap}
-use Rattle.gsd_turns.specs.Plans.{ofFour}
-use Rattle.gsd_turns.proofs.plan.of_four.Statement.{statement}
-use Rattle.gsd_turns.proofs.plan.of_four.Tie as tie
+use Rattle.gsd_plan.specs.Plans.{ofFour}
+use Rattle.gsd_plan.proofs.of_four.Statement.{statement}
+use Rattle.gsd_plan.proofs.of_four.Tie as tie
 
 returns : tie.Need-returns
 unfolding ofFour

@@ -1,0 +1,2 @@
+-- Laws of the runs of a plan.
+pub mod Plans

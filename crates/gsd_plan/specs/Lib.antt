@@ -1,0 +1,2 @@
+-- Which runs a plan is.
+pub mod Plans
