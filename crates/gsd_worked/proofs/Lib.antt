@@ -1,2 +1,2 @@
--- Their proof.
+-- The proof of the worked cases.
 pub mod Table
