@@ -9,7 +9,7 @@
  *
  * The archive is for x86-64 (System V), for C and C++, and takes memcpy and
  * memset from the C library, nothing else. Beside what these two use, the stack
- * needs at most 9 KiB for a reading call, 25 KiB for append, 1 KiB for create.
+ * needs at most 9 KiB for a reading call, 13 KiB for append, 1 KiB for create.
  *
  * Every call answers a number: 0, or that of the refusal, listed below with its
  * name and its text. A refusal changes nothing, neither the image nor out; only

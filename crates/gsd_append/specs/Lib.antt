@@ -1,3 +1,1 @@
--- What a plan is that carries out an append, and what the planner goes by.
-pub mod Matches
-pub mod Planning
+-- No definition of its own: the append is defined in gsd_stores.

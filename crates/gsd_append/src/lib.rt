@@ -1,9 +1,8 @@
-// The append: its stores made one after the other on the image.
-mod planner;
-
+// The append: a plan is made of the image and the sheet, and its stores are made one after the other on the image.
+use gsd_plan::plan_append;
+use gsd_sheet::PLAN_WORDS;
 use gsd_stores::Appended;
 use gsd_turns::turn;
-use planner::plan_append;
 ghost use mathlib.Core.Path.{_≡_};
 ghost use Rattle.gsd_stores.specs.Append.{appendAnswer, appended};
 
@@ -14,19 +13,21 @@ pub fn append(image: &mut [u8], sheet: &[u8], limit: u64) -> Appended
     ensures answer { λ r. ⌜ r ≡ appendAnswer (now (image .entry)) (now (sheet .entry)) limit ⌝ }
     ensures image { λ r. ⌜ now (image .exit) ≡ appended (now (image .entry)) (now (sheet .entry)) limit ⌝ }
 {
-    let planning = plan_append(image, sheet);
-    if planning.number != 0 {
+    // The plan lives here and is lent to whoever fills or reads it: it is never copied.
+    let mut plan = [0u64; PLAN_WORDS];
+    let number = plan_append(image, sheet, &mut plan);
+    if number != 0 {
         return Appended {
-            number: planning.number,
+            number,
             done: 0,
             whole: 0,
         };
     }
-    let whole = turn::whole(planning.plan);
-    let made = turn::turn(image, sheet, planning.plan, 0, 0, limit);
+    let whole = turn::whole(sheet, &plan);
+    let turned = turn::turn(image, sheet, &plan, 0, 0, limit);
     Appended {
         number: 0,
-        done: made.made,
+        done: turned.made,
         whole,
     }
 }

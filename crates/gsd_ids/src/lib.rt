@@ -1,27 +1,28 @@
 // Leaf code of the append: the ids of the rows' names. A listed name has its place in the list, the new ones follow in the
 // order of rows. The module order sorts rows by their ids.
-pub mod order;
+mod order;
 
 use gsd_names::PLACES;
 use gsd_names::name_id;
+use gsd_sheet::DATA_FROM;
+use gsd_sheet::NAME_FROM;
+use gsd_sheet::NEW_ROW;
+use gsd_sheet::SLOT_PAIR;
+use order::sort;
 ghost use mathlib.Core.Path.{_≡_};
 ghost use Prim.Native.Nat.{_+_, _-_, _≤_, _<_};
 ghost use lib.ListN.{length};
 ghost use Rattle.gsd_format.specs.Bytes.{part};
-ghost use Rattle.gsd_format.specs.Names.{indexOf, Distinct};
-ghost use Rattle.gsd_format.specs.Opening.{mostNames};
-ghost use Rattle.gsd_stores.specs.Sheet.{rowCount, rowsOf};
+ghost use Rattle.gsd_format.specs.Names.{indexOf};
+ghost use Rattle.gsd_stores.specs.Sheet.{rowsOf};
 ghost use Rattle.gsd_names.specs.NameLists.{namesIn, Spans};
-ghost use Rattle.gsd_sheet.specs.Rows.{sheetNames, Located};
+ghost use Rattle.gsd_sheet.specs.Columns.{planWords, slotPairColumn, Kept};
 ghost use Rattle.gsd_ids.specs.Order.{paired};
-ghost use Rattle.gsd_ids.specs.RowIds.{IdsFound};
+ghost use Rattle.gsd_ids.specs.RowIds.{Searchable, IdsListed, PairsTaken, PairsPut, IdsFound};
 
-// packed[i] is row i's id with i, as one number; rows[j] is the row of the j-th of the new names, which take `size` bytes
-// in a name list.
-pub struct Ids {
-    pub packed: [u64; 64],
-    pub fresh: usize,
-    pub rows: [usize; 64],
+// How many names are new, and their bytes in a name list.
+pub struct NewNames {
+    pub count: usize,
     pub size: usize,
 }
 
@@ -50,47 +51,84 @@ fn id_of(
     name_id(image, starts, names, &sheet[from..until])
 }
 
-// Each row's name is searched once.
-pub fn find_ids<'a>(
+// Each row's name is searched once. The pairs of id and row are still in the order of rows.
+fn list_ids(
     image: &[u8],
     starts: &[u32; PLACES],
     names: usize,
     sheet: &[u8],
-    places: &'a [usize; 65],
-    bodies: &'a [usize; 64],
+    plan: &mut [u64],
     count: usize,
-) -> Ids
-    requires spans { ⌜ Spans (now starts) names (length (now image)) ⌝ }
-    requires few { ⌜ names ≤ mostNames ⌝ }
-    requires located { ⌜ Located (now sheet) (now places) (now bodies) ⌝ }
-    requires counted { ⌜ count ≡ rowCount (now sheet) ⌝ }
-    requires distinct { ⌜ Distinct (sheetNames (now sheet)) ⌝ }
-    ensures { λ r. ⌜ IdsFound (namesIn (now (image .entry)) (now (starts .entry)) names) (rowsOf (now (sheet .entry))) r ⌝ }
+) -> NewNames
+    requires { ⌜ Searchable (now image) (now starts) names (now sheet) (now plan) count ⌝ }
+    ensures listed { λ r. ⌜ IdsListed (namesIn (now (image .entry)) (now (starts .entry)) names) (rowsOf (now (sheet .entry))) (now (plan .exit)) r ⌝ }
+    ensures kept { λ r. ⌜ Kept slotPairColumn (now (plan .entry)) (now (plan .exit)) ⌝ }
 {
-    let mut packed = [0u64; 64];
-    let mut rows = [0usize; 64];
     let mut fresh = 0;
     let mut size = 0;
     let mut i = 0;
     while i < count {
-        let from = places[i];
-        let until = bodies[i];
+        let from = plan[NAME_FROM + i] as usize;
+        let until = plan[DATA_FROM + i] as usize;
         let id = id_of(image, starts, names, sheet, from, until);
         if id < names {
-            packed[i] = pair(id, i);
+            plan[SLOT_PAIR + i] = pair(id, i);
             i += 1;
             continue;
         }
-        packed[i] = pair(names + fresh, i);
-        rows[fresh] = i;
+        plan[SLOT_PAIR + i] = pair(names + fresh, i);
+        plan[NEW_ROW + fresh] = i as u64;
         fresh += 1;
         size += until - from + 1;
         i += 1;
     }
-    Ids {
-        packed,
-        fresh,
-        rows,
-        size,
+    NewNames { count: fresh, size }
+}
+
+// The first `count` pairs as an array, and an array's numbers as the pairs.
+fn pairs_of(plan: &[u64], count: usize) -> [u64; 64]
+    requires long { ⌜ length (now plan) ≡ planWords ⌝ }
+    requires few { ⌜ count ≤ 64 ⌝ }
+    ensures { λ r. ⌜ PairsTaken (now (plan .entry)) count r ⌝ }
+{
+    let mut pairs = [0u64; 64];
+    let mut i = 0;
+    while i < count {
+        pairs[i] = plan[SLOT_PAIR + i];
+        i += 1;
     }
+    pairs
+}
+
+fn put_pairs(plan: &mut [u64], pairs: [u64; 64], count: usize)
+    requires long { ⌜ length (now plan) ≡ planWords ⌝ }
+    requires few { ⌜ count ≤ 64 ⌝ }
+    ensures { λ _. ⌜ PairsPut (now (plan .entry)) pairs count (now (plan .exit)) ⌝ }
+{
+    let mut i = 0;
+    while i < count {
+        plan[SLOT_PAIR + i] = pairs[i];
+        i += 1;
+    }
+}
+
+// The rows' ids: the column SLOT_PAIR has each with its row, in the order of ids, and the column NEW_ROW the new names'
+// rows, in the order of rows. The ids are ordered in an array that goes by value.
+pub fn find_ids(
+    image: &[u8],
+    starts: &[u32; PLACES],
+    names: usize,
+    sheet: &[u8],
+    plan: &mut [u64],
+    count: usize,
+) -> NewNames
+    requires { ⌜ Searchable (now image) (now starts) names (now sheet) (now plan) count ⌝ }
+    ensures found { λ r. ⌜ IdsFound (namesIn (now (image .entry)) (now (starts .entry)) names) (rowsOf (now (sheet .entry))) (now (plan .exit)) r ⌝ }
+    ensures kept { λ r. ⌜ Kept slotPairColumn (now (plan .entry)) (now (plan .exit)) ⌝ }
+{
+    let new = list_ids(image, starts, names, sheet, plan, count);
+    let pairs = pairs_of(plan, count);
+    let ordered = sort(pairs, count);
+    put_pairs(plan, ordered, count);
+    new
 }

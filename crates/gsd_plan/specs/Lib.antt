@@ -1,2 +1,2 @@
--- Which runs a plan is.
-pub mod Plans
+-- What the planner goes by, and what it answers.
+pub mod Planning

@@ -1,183 +1,112 @@
-// Leaf code of the append: what it will store, all its places and numbers in a plan, and the runs that follow from them.
-// Its functions have a `requires`.
-use gsd_runs::Run;
+// The plan of an append: every test in its order, and every place and number found before the first store. It is leaf code of
+// the append: its functions have a `requires`.
+mod put;
+
+use gsd_bytes::MOST_NAMES;
+use gsd_format::Layout;
+use gsd_ids::NewNames;
+use gsd_ids::find_ids;
+use gsd_names::PLACES;
+use gsd_open::Survey;
+use gsd_open::survey_of;
+use gsd_places::end_of_use;
+use gsd_places::find_sites;
+use gsd_places::place_data;
+use gsd_places::place_names;
+use gsd_sheet::row_count;
+use gsd_sheet::sheet_rows;
+use put::block_at;
+use put::put_numbers;
 ghost use mathlib.Core.Path.{_≡_};
-ghost use Prim.Native.Nat.{_+_, _-_, _*_, _/_, _%_, _≤_, _<_};
-ghost use lib.ListN.{getD};
-ghost use Rattle.gsd_runs.specs.Exec.{Good};
-ghost use Rattle.gsd_runs.specs.Runs.{none, body, name, half};
-ghost use Rattle.gsd_plan.specs.Plans.{ofFour, entry, headAt, planFrom, runsOf};
+ghost use lib.ListN.{length};
+ghost use Rattle.gsd_stores.specs.Sheet.{sheetTest};
+ghost use Rattle.gsd_stores.specs.Append.{imageTest, roomTest, planTest, appendTest};
+ghost use Rattle.gsd_open.specs.Surveys.{Surveyed};
+ghost use Rattle.gsd_sheet.specs.Columns.{planWords};
+ghost use Rattle.gsd_sheet.specs.Rows.{Located};
+ghost use Rattle.gsd_plan.specs.Planning.{Sees, Asked, Plans};
 
-// `heads` has the eleven runs that are there once, in their order and six numbers to a run; one that is not needed has no
-// words. Row i's data lie in the sheet from body_from[i] to body_until[i] and go to body_to[i]; the j-th new name lies from
-// name_from[j] to name_until[j] and goes to name_at[j]. The new entries go to the slots from `slot` on, one for each row,
-// all of one frame; meta[s] is M + 2^32 * id + 2^48 * type.
-pub struct Plan {
-    pub rows: usize,
-    pub fresh: usize,
-    pub heads: [u64; 66],
-    pub body_to: [usize; 64],
-    pub body_from: [usize; 64],
-    pub body_until: [usize; 64],
-    pub name_at: [usize; 64],
-    pub name_from: [usize; 64],
-    pub name_until: [usize; 64],
-    pub slot: usize,
-    pub frame: u64,
-    pub n: [u64; 64],
-    pub meta: [u64; 64],
-    pub location: [u64; 64],
+// 29, and all places.
+fn plan_rows(image: &[u8], sheet: &[u8], survey: Survey, new: NewNames, plan: &mut [u64]) -> u64
+    requires sees { ⌜ Sees (now image) survey ⌝ }
+    requires asked { ⌜ Asked (now image) (now sheet) (now plan) new ⌝ }
+    ensures { λ r. ⌜ Plans (now (image .entry)) (now (sheet .entry)) (roomTest (now (image .entry)) (now (sheet .entry))) r (now (plan .exit)) ⌝ }
+{
+    let rows = row_count(sheet);
+    let position = place_data(plan, rows, end_of_use(survey.layout, survey.chunks_end));
+    let len = image.len() as u64;
+    if len < position {
+        return 29;
+    }
+    let listed = survey.names.list_end - survey.layout.namelist as usize;
+    let sites = find_sites(
+        survey.layout,
+        position,
+        (listed + new.size) as u64,
+        survey.entries + rows as u64,
+    );
+    if len < sites.last {
+        return 29;
+    }
+    let names = block_at(sites.segments, sites.names_at, survey.layout.namelist);
+    place_names(plan, new.count, names + listed as u64);
+    put_numbers(plan, survey, sites, rows, new.count);
+    0
 }
 
-fn head_at(heads: &[u64; 66], k: usize) -> Run
-    requires { ⌜ k < 11 ⌝ }
-    ensures { λ r. ⌜ r ≡ headAt (now (heads .entry)) k ⌝ }
+// 28, then 29.
+fn plan_names(
+    image: &[u8],
+    sheet: &[u8],
+    survey: Survey,
+    starts: &[u32; PLACES],
+    plan: &mut [u64],
+) -> u64
+    requires surveyed { ⌜ Surveyed (now image) (now starts) survey ⌝ }
+    requires opens { ⌜ survey .number ≡ 0 ⌝ }
+    requires accepted { ⌜ sheetTest (now sheet) ≡ 0 ⌝ }
+    requires long { ⌜ length (now plan) ≡ planWords ⌝ }
+    requires located { ⌜ Located (now sheet) (now plan) ⌝ }
+    ensures { λ r. ⌜ Plans (now (image .entry)) (now (sheet .entry)) (planTest (now (image .entry)) (now (sheet .entry))) r (now (plan .exit)) ⌝ }
 {
-    let i = 6 * k;
-    Run {
-        kind: heads[i],
-        to: heads[i + 1] as usize,
-        words: heads[i + 2] as usize,
-        from: heads[i + 3] as usize,
-        until: heads[i + 4] as usize,
-        value: heads[i + 5],
+    let listed = survey.names.count;
+    let new = find_ids(image, starts, listed, sheet, plan, row_count(sheet));
+    if MOST_NAMES < listed + new.count {
+        return 28;
     }
+    plan_rows(image, sheet, survey, new, plan)
 }
 
-// The other runs, from the arrays.
-
-fn body_run<'a>(to: &'a [usize; 64], from: &'a [usize; 64], until: &'a [usize; 64], i: usize) -> Run
-    requires row { ⌜ i < 64 ⌝ }
-    requires ordered { ⌜ getD (now from) i 0 ≤ getD (now until) i 0 ⌝ }
-    requires end { ⌜ getD (now until) i 0 ≤ half ⌝ }
-    ensures { λ r. ⌜ r ≡ body (getD (now (to .entry)) i 0) (getD (now (from .entry)) i 0) (getD (now (until .entry)) i 0) ⌝ }
+// 21: the append's test of an image that opens.
+fn image_number(l: Layout) -> u64
+    ensures { λ r. ⌜ r ≡ imageTest l ⌝ }
 {
-    let start = from[i];
-    let end = until[i];
-    Run {
-        kind: 1,
-        to: to[i],
-        words: (end - start + 7) / 8,
-        from: start,
-        until: end,
-        value: 0,
+    if l.index % 8 != 0 {
+        return 21;
     }
+    if l.namelist % 8 != 0 {
+        return 21;
+    }
+    0
 }
 
-fn name_run<'a>(at: &'a [usize; 64], from: &'a [usize; 64], until: &'a [usize; 64], j: usize) -> Run
-    requires name { ⌜ j < 64 ⌝ }
-    requires ordered { ⌜ getD (now from) j 0 ≤ getD (now until) j 0 ⌝ }
-    requires end { ⌜ getD (now at) j 0 + (getD (now until) j 0 - getD (now from) j 0) ≤ half ⌝ }
-    ensures { λ r. ⌜ r ≡ name (getD (now (at .entry)) j 0) (getD (now (from .entry)) j 0) (getD (now (until .entry)) j 0) ⌝ }
+// Every test in its order: the append's number, and where that is 0 its plan. Nothing is stored.
+pub fn plan_append(image: &[u8], sheet: &[u8], plan: &mut [u64]) -> u64
+    requires { ⌜ length (now plan) ≡ planWords ⌝ }
+    ensures { λ r. ⌜ Plans (now (image .entry)) (now (sheet .entry)) (appendTest (now (image .entry)) (now (sheet .entry))) r (now (plan .exit)) ⌝ }
 {
-    let first = at[j];
-    let start = from[j];
-    let end = until[j];
-    Run {
-        kind: 3,
-        to: first / 8 * 8,
-        words: (first + (end - start) + 7) / 8 - first / 8,
-        from: start,
-        until: end,
-        value: first as u64,
+    let mut starts = [0u32; PLACES];
+    let survey = survey_of(image, &mut starts);
+    if survey.number != 0 {
+        return survey.number;
     }
-}
-
-fn of_four(a: u64, b: u64, c: u64, d: u64, i: usize) -> u64
-    requires { ⌜ i < 4 ⌝ }
-    ensures { λ r. ⌜ r ≡ ofFour a b c d i ⌝ }
-{
-    match i {
-        0 => a,
-        1 => b,
-        2 => c,
-        _ => d,
+    let number = image_number(survey.layout);
+    if number != 0 {
+        return number;
     }
-}
-
-// The i-th word of the entry at `at`.
-fn entry_run(at: usize, i: usize, frame: u64, n: u64, meta: u64, location: u64) -> Run
-    requires word { ⌜ i < 4 ⌝ }
-    requires end { ⌜ at + ofFour 0 8 24 16 i ≤ half ⌝ }
-    ensures { λ r. ⌜ r ≡ entry at i frame n meta location ⌝ }
-{
-    let place = of_four(0, 8, 24, 16, i) as usize;
-    let value = of_four(frame, n, meta, location, i);
-    Run {
-        kind: 2,
-        to: at + place,
-        words: 1,
-        from: 0,
-        until: 0,
-        value: value,
+    let number = sheet_rows(sheet, plan);
+    if number != 0 {
+        return number;
     }
-}
-
-fn entry_at<'a>(
-    rows: usize,
-    slot: usize,
-    frame: u64,
-    n: &'a [u64; 64],
-    meta: &'a [u64; 64],
-    location: &'a [u64; 64],
-    k: usize,
-) -> Run
-    requires few { ⌜ rows ≤ 64 ⌝ }
-    requires word { ⌜ k < 4 * rows ⌝ }
-    requires end { ⌜ slot + 32 * (rows - 1 - k / 4) + ofFour 0 8 24 16 (k % 4) ≤ half ⌝ }
-    ensures { λ r. ⌜ r ≡ entry (slot + 32 * (rows - 1 - k / 4)) (k % 4) frame (getD (now (n .entry)) (rows - 1 - k / 4) 0)
-        (getD (now (meta .entry)) (rows - 1 - k / 4) 0) (getD (now (location .entry)) (rows - 1 - k / 4) 0) ⌝ }
-{
-    let s = rows - 1 - k / 4;
-    entry_run(slot + 32 * s, k % 4, frame, n[s], meta[s], location[s])
-}
-
-// The r-th run of a plan, which is lent by its parts: its arrays are not copied.
-pub fn run_at<'a>(
-    rows: usize,
-    fresh: usize,
-    heads: &'a [u64; 66],
-    body_to: &'a [usize; 64],
-    body_from: &'a [usize; 64],
-    body_until: &'a [usize; 64],
-    name_at: &'a [usize; 64],
-    name_from: &'a [usize; 64],
-    name_until: &'a [usize; 64],
-    slot: usize,
-    frame: u64,
-    n: &'a [u64; 64],
-    meta: &'a [u64; 64],
-    location: &'a [u64; 64],
-    r: usize,
-) -> Run
-    requires few { ⌜ rows ≤ 64 ⌝ }
-    requires new { ⌜ fresh ≤ rows ⌝ }
-    requires run { ⌜ r < 11 + fresh + 5 * rows ⌝ }
-    requires good { ⌜ Good half half (getD (runsOf (planFrom rows fresh (now heads) (now «body_to») (now «body_from») (now «body_until»)
-        (now «name_at») (now «name_from») (now «name_until») slot frame (now n) (now meta) (now location))) r none) ⌝ }
-    ensures { λ x. ⌜ x ≡ getD (runsOf (planFrom rows fresh (now (heads .entry))
-        (now («body_to» .entry)) (now («body_from» .entry)) (now («body_until» .entry))
-        (now («name_at» .entry)) (now («name_from» .entry)) (now («name_until» .entry))
-        slot frame (now (n .entry)) (now (meta .entry)) (now (location .entry)))) r none ⌝ }
-{
-    if r < 3 {
-        return head_at(heads, r);
-    }
-    let row = r - 3;
-    if row < rows {
-        return body_run(body_to, body_from, body_until, row);
-    }
-    let b = row - rows;
-    if b < 4 {
-        return head_at(heads, 3 + b);
-    }
-    let j = b - 4;
-    if j < fresh {
-        return name_run(name_at, name_from, name_until, j);
-    }
-    let e = j - fresh;
-    if e < 4 {
-        return head_at(heads, 7 + e);
-    }
-    entry_at(rows, slot, frame, n, meta, location, e - 4)
+    plan_names(image, sheet, survey, &starts, plan)
 }

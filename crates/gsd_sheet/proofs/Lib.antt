@@ -1,2 +1,3 @@
--- Laws of the sheet's tests and of its rows.
+-- Laws of the sheet's tests and of its rows, and of columns.
+pub mod Columns
 pub mod Rows

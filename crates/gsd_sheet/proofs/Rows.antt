@@ -6,10 +6,9 @@ use mathlib.Core.List.{List, []}
 use native.Mathlib.Nat.{mul-assoc, mul-le-mul, div-lt-iff-lt-mul}
 use native.Mathlib.Numerals.{add-one}
 use native.Mathlib.Omega.{arith}
-use lib.ListN.{length, getD, set, drop, drop-of-length-le, length-map, List·getD-map}
-use lib.Seq.{drop-cons, getD-set-same, getD-set-other}
+use lib.ListN.{length, getD, drop, drop-of-length-le, length-map, List·getD-map}
+use lib.Seq.{drop-cons}
 use lib.Dec.{ltb, eqb}
-use borrow.Author.Count.{below-more}
 use borrow.Author.Tests.{ltb-true, ltb-false, lt-ltb, le-ltb, eq-eqb, ne-eqb}
 use Rattle.gsd_format.specs.Bytes.{le, part, zeroIn}
 use Rattle.gsd_format.specs.Types.{sizeOf}
@@ -22,8 +21,9 @@ use Rattle.gsd_stores.specs.Sheet.{rowKind, nameSize, bodySize, badRow, badTabl
 use Rattle.gsd_stores.specs.Demand3.{noRow}
 use Rattle.gsd_stores.specs.Sheet.{rowAt, nameAt, bodyAt, Exact}
 use Rattle.gsd_stores.proofs.Sheet.{start-first, start-next, start-rises, bodies-end, rows-count, row-at, name-inside, body-inside, name-length, name-zero}
-use Rattle.gsd_sheet.specs.declared.SheetRows.{SheetRows}
-use Rattle.gsd_sheet.specs.Rows.{tableTest, endTest, namesTest, sheetNames, nameOf, repeats, Filled, Located, Found}
+use Rattle.gsd_sheet.specs.Columns.{nameFrom, dataFrom, Filled, Kept}
+use Rattle.gsd_sheet.specs.Rows.{tableTest, endTest, namesTest, sheetNames, nameOf, repeats, Located}
+use Rattle.gsd_sheet.proofs.Columns.{filled-kept}
 
 -- the size of a row's type, found in two steps
 pub kind-size : (s : List ℕ) (t k z : ℕ) → k ≡ rowKind s t → z ≡ sizeOf k → z ≡ sizeOf (rowKind s t)
@@ -113,31 +113,12 @@ name-next s i = rw add-one (start-next s 4 (tableEnd s) i)
 pub late-end : (s : List ℕ) (i : ℕ) → i ≤ rowCount s → length s < nameAt s i → endTest s ≡ 25
 late-end s i l h = other-end s (λ e. omega (arith, start-rises (rowCount s) s 4 (tableEnd s) i l))
 
--- Places
-
-pub filled-none : {f : ℕ → ℕ} {l : List ℕ} → Filled f l 0
-filled-none = record { at = λ i h. absurd (omega arith) }
-
-pub filled-to : {f : ℕ → ℕ} {l : List ℕ} {n m : ℕ} → n ≡ m → Filled f l n → Filled f l m
-filled-to e h = record { at = λ i l. h .at i (omega arith) }
-
-pub filled-more : {f : ℕ → ℕ} {l : List ℕ} {i v : ℕ} → Filled f l i → i < length l → v ≡ f i → Filled f (set l i v) (i + 1)
-filled-more {f} {l} {i} {v} h b e =
-    record { at = below-more (λ k. getD (set l i v) k 0 ≡ f k) i (λ k m. getD-set-other l i k v 0 (λ q. omega arith) ∙ h .at k m) (getD-set-same l i v 0 b ∙ e) }
-
 -- the rows before the i-th are placed, and the i-th begins at p
-pub record Placed (s : List ℕ) (i p : ℕ) (names bodies : List ℕ) : Type 0 where
+pub record Placed (s : List ℕ) (i p : ℕ) (c : List ℕ) : Type 0 where
   pub next : p ≡ nameAt s i
   pub inside : p ≤ length s
-  pub name : Filled (nameAt s) names i
-  pub body : Filled (bodyAt s) bodies i
-
--- a refusal has no rows to locate
-pub refused-found : (s : List ℕ) (k : ℕ) (r : SheetRows) → (k ≡ 0 → ⊥) → r .number ≡ k → Found s k r
-refused-found s k r f e = record { number = e; count = λ z. absurd (f z); rows = λ z. absurd (f z) }
-
-pub found-as : {s : List ℕ} {k n : ℕ} {r : SheetRows} → k ≡ n → Found s k r → Found s n r
-found-as e h = record { number = h .number ∙ e; count = λ z. h .count (e ∙ z); rows = λ z. h .rows (e ∙ z) }
+  pub name : Filled 0 (nameAt s) c i
+  pub body : Filled 65 (bodyAt s) c i
 
 -- Rows that are located
 
@@ -147,31 +128,40 @@ names-count s = length-map (rowsOf s) (λ r. r .name) ∙ rows-count s
 name-row : (s : List ℕ) (i : ℕ) → nameOf s i ≡ getD (rowsOf s) i noRow .name
 name-row s i = List·getD-map (λ r. r .name) (rowsOf s) i noRow
 
-module _ {s names bodies : List ℕ} (h : Located s names bodies) (i : ℕ) (l : i < rowCount s) where
+module _ {s c : List ℕ} (h : Located s c) (i : ℕ) (l : i < rowCount s) where
   -- the name and the data, one behind the other
-  pub located-room : (getD names i 0 ≤ getD bodies i 0) × (getD bodies i 0 ≤ length s)
+  pub located-room : (nameFrom c i ≤ dataFrom c i) × (dataFrom c i ≤ length s)
   located-room = omega (arith, h .name .at i (omega arith), h .body .at i l, name-inside s (h .exact) i l)
 
-  pub located-end : (getD bodies i 0 ≤ getD names (i + 1) 0) × (getD names (i + 1) 0 ≤ length s)
+  pub located-end : (dataFrom c i ≤ nameFrom c (i + 1)) × (nameFrom c (i + 1) ≤ length s)
   located-end = omega (arith, h .name .at (i + 1) (omega arith), h .body .at i l, name-next s i, body-inside s (h .exact) i l)
 
-  name-span : getD bodies i 0 - getD names i 0 ≡ nameSize s (rowAt i)
+  name-span : dataFrom c i - nameFrom c i ≡ nameSize s (rowAt i)
   name-span = omega (arith, h .name .at i (omega arith), h .body .at i l)
 
-  body-span : getD names (i + 1) 0 - getD bodies i 0 ≡ bodySize s (rowAt i)
+  body-span : nameFrom c (i + 1) - dataFrom c i ≡ bodySize s (rowAt i)
   body-span = omega (arith, h .name .at (i + 1) (omega arith), h .body .at i l, name-next s i)
 
-  pub located-name : nameOf s i ≡ part s (getD names i 0) (getD bodies i 0 - getD names i 0)
+  pub located-name : nameOf s i ≡ part s (nameFrom c i) (dataFrom c i - nameFrom c i)
   located-name = name-row s i ∙ ap (λ r. r .name) (row-at s i l) ∙ rw (name-span, h .name .at i (omega arith))
 
-  pub located-body : getD (rowsOf s) i noRow .body ≡ part s (getD bodies i 0) (getD names (i + 1) 0 - getD bodies i 0)
+  pub located-body : getD (rowsOf s) i noRow .body ≡ part s (dataFrom c i) (nameFrom c (i + 1) - dataFrom c i)
   located-body = ap (λ r. r .body) (row-at s i l) ∙ rw (body-span, h .body .at i l)
 
-  pub located-length : length (nameOf s i) ≡ getD bodies i 0 - getD names i 0
+  pub located-length : length (nameOf s i) ≡ dataFrom c i - nameFrom c i
   located-length = ap length (name-row s i) ∙ name-length s (h .exact) i l ∙ sym name-span
 
-  pub located-zero : zeroIn (nameOf s i) 0 (length (nameOf s i)) ≡ zeroIn s (getD names i 0) (getD bodies i 0 - getD names i 0)
+  pub located-zero : zeroIn (nameOf s i) 0 (length (nameOf s i)) ≡ zeroIn s (nameFrom c i) (dataFrom c i - nameFrom c i)
   located-zero = rw name-row (name-zero s (h .exact) i l ∙ rw (name-span, h .name .at i (omega arith)))
+
+-- later columns may change
+pub located-kept : {s c c′ : List ℕ} → Located s c → Kept 129 c c′ → Located s c′
+located-kept h k = record {
+  few = h .few;
+  exact = h .exact;
+  name = filled-kept k (omega (arith, h .few)) (h .name);
+  body = filled-kept k (omega (arith, h .few)) (h .body);
+}
 
 -- Names
 

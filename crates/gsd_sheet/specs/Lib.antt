@@ -1,2 +1,3 @@
--- Where a sheet's rows lie, and its tests one by one.
+-- Where a sheet's rows lie, its tests one by one, and the columns of a plan.
+pub mod Columns
 pub mod Rows

@@ -1,6 +1,5 @@
 -- What the code finds in a sheet: its number, and where each row's name and data lie.
-use Prim.Native.Nat.{ℕ, _+_, _≤_, _<_}
-use mathlib.Core.Path.{_≡_}
+use Prim.Native.Nat.{ℕ, _+_, _≤_}
 use mathlib.Core.Bool.{Bool, not, _||_}
 use mathlib.Core.List.{List, []}
 use lib.ListN.{length, getD}
@@ -9,7 +8,7 @@ use Rattle.gsd_format.specs.Refusals.{_⇒_, _▹_}
 use Rattle.gsd_format.specs.Names.{indexOf}
 use Rattle.gsd_format.specs.Opening.{twins}
 use Rattle.gsd_stores.specs.Sheet.{badTable, bodiesEnd, rowCount, tableEnd, rowsOf, rowNames, anyZero, mostRows, nameAt, bodyAt, Exact}
-use Rattle.gsd_sheet.specs.declared.SheetRows.{SheetRows}
+use Rattle.gsd_sheet.specs.Columns.{nameFromColumn, dataFromColumn, Filled}
 
 -- the names of the rows, and that of row i
 abbrev pub sheetNames : List ℕ → List (List ℕ)
@@ -35,19 +34,9 @@ namesTest s = (anyZero (sheetNames s) ⇒ 26) ▹ (twins (sheetNames s) ⇒ 27)
 abbrev pub repeats : List (List ℕ) → ℕ → Bool
 repeats ns i = ltb (indexOf (getD ns i []) ns) i
 
--- the first n numbers of l are f 0, f 1, ..
-pub record Filled (f : ℕ → ℕ) (l : List ℕ) (n : ℕ) : Type 0 where
-  pub at : (i : ℕ) → i < n → getD l i 0 ≡ f i
-
--- row i's name lies from names i to bodies i, its data from there to names (i + 1); the last ends with the sheet
-pub record Located (s names bodies : List ℕ) : Type 0 where
+-- the columns say where each row's name and data lie; the last row's data end with the sheet
+pub record Located (s c : List ℕ) : Type 0 where
   pub few : rowCount s ≤ mostRows
   pub exact : Exact s
-  pub name : Filled (nameAt s) names (rowCount s + 1)
-  pub body : Filled (bodyAt s) bodies (rowCount s)
-
--- refused with the number k, or all rows are located
-pub record Found (s : List ℕ) (k : ℕ) (r : SheetRows) : Type 0 where
-  pub number : r .number ≡ k
-  pub count : k ≡ 0 → r .count ≡ rowCount s
-  pub rows : k ≡ 0 → Located s (r .names) (r .bodies)
+  pub name : Filled nameFromColumn (nameAt s) c (rowCount s + 1)
+  pub body : Filled dataFromColumn (bodyAt s) c (rowCount s)

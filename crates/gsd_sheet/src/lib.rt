@@ -15,7 +15,8 @@ ghost use Rattle.gsd_format.specs.Types.{sizeOf};
 ghost use Rattle.gsd_format.specs.Opening.{twins};
 ghost use Rattle.gsd_stores.specs.Sheet.{tableStart, rowSize, rowN, rowM, rowKind, nameSize, bodySize, badRow, badTable};
 ghost use Rattle.gsd_stores.specs.Sheet.{rowCount, tableEnd, anyZero, sheetTest, rowAt};
-ghost use Rattle.gsd_sheet.specs.Rows.{tableTest, endTest, namesTest, Located, Found, sheetNames, nameOf, repeats};
+ghost use Rattle.gsd_sheet.specs.Columns.{planWords};
+ghost use Rattle.gsd_sheet.specs.Rows.{tableTest, endTest, namesTest, Located, sheetNames, nameOf, repeats};
 
 const MOST_ROWS: usize = 64;
 
@@ -24,23 +25,31 @@ const TABLE_START: usize = 4;
 
 const ROW_SIZE: usize = 16;
 
-// Row i's name lies from names[i] to bodies[i], its data from bodies[i] to names[i + 1]. A refusal has no rows.
-pub struct SheetRows {
-    pub number: u64,
-    pub count: usize,
-    pub names: [usize; 65],
-    pub bodies: [usize; 64],
-}
+// A plan is one lent array of PLAN_WORDS numbers. It begins with columns, lists of numbers for up to 64 rows; each constant is
+// where one begins. First: where row i's name and its data begin in the sheet.
+pub const NAME_FROM: usize = 0;
 
-fn refused(number: u64) -> SheetRows
-    ensures { λ r. ⌜ r .number ≡ number ⌝ }
+pub const DATA_FROM: usize = 65;
+
+// Id and row of the new entry in a slot, as one number.
+pub const SLOT_PAIR: usize = 129;
+
+// The row of a new name.
+pub const NEW_ROW: usize = 193;
+
+// Where a row's data and a new name go in the image.
+pub const DATA_TO: usize = 257;
+
+pub const NAME_TO: usize = 321;
+
+pub const PLAN_WORDS: usize = 399;
+
+// How many rows the sheet says it has.
+pub fn row_count(sheet: &[u8]) -> usize
+    requires { ⌜ 4 ≤ length (now sheet) ⌝ }
+    ensures { λ r. ⌜ r ≡ rowCount (now (sheet .entry)) ⌝ }
 {
-    SheetRows {
-        number,
-        count: 0,
-        names: [0; 65],
-        bodies: [0; 64],
-    }
+    u32_at(sheet, 0) as usize
 }
 
 // Row i of the table: N, M, type and name length.
@@ -111,7 +120,7 @@ fn table_number(sheet: &[u8]) -> u64
     if sheet.len() < 4 {
         return 22;
     }
-    let count = u32_at(sheet, 0) as usize;
+    let count = row_count(sheet);
     if count == 0 {
         return 22;
     }
@@ -168,53 +177,46 @@ fn body_end(sheet: &[u8], i: usize, body: usize) -> usize
 }
 
 // 25: the rows one behind the other, and the sheet's end behind the last.
-fn place_rows(sheet: &[u8], count: usize) -> SheetRows
+fn place_rows(sheet: &[u8], count: usize, plan: &mut [u64]) -> u64
+    requires long { ⌜ length (now plan) ≡ planWords ⌝ }
     requires counted { ⌜ count ≡ rowCount (now sheet) ⌝ }
     requires few { ⌜ count ≤ 64 ⌝ }
     requires table { ⌜ tableEnd (now sheet) ≤ length (now sheet) ⌝ }
-    ensures { λ r. ⌜ Found (now (sheet .entry)) (endTest (now (sheet .entry))) r ⌝ }
+    ensures answer { λ r. ⌜ r ≡ endTest (now (sheet .entry)) ⌝ }
+    ensures rows { λ r. ⌜ (r ≡ 0 → Located (now (sheet .entry)) (now (plan .exit))) ⌝ }
 {
-    let mut names = [0usize; 65];
-    let mut bodies = [0usize; 64];
     let mut at = TABLE_START + ROW_SIZE * count;
     let mut i = 0;
     while i < count {
         let body = at + name_size(sheet, i);
         let end = body_end(sheet, i, body);
         if sheet.len() < end {
-            return refused(25);
+            return 25;
         }
-        names[i] = at;
-        bodies[i] = body;
+        plan[NAME_FROM + i] = at as u64;
+        plan[DATA_FROM + i] = body as u64;
         at = end;
         i += 1;
     }
     if at != sheet.len() {
-        return refused(25);
+        return 25;
     }
-    names[count] = at;
-    SheetRows {
-        number: 0,
-        count,
-        names,
-        bodies,
-    }
+    plan[NAME_FROM + count] = at as u64;
+    0
 }
 
 // 26: is there a zero byte in one of the names?
-fn zero_named<'a>(
-    sheet: &[u8],
-    count: usize,
-    names: &'a [usize; 65],
-    bodies: &'a [usize; 64],
-) -> bool
-    requires located { ⌜ Located (now sheet) (now names) (now bodies) ⌝ }
+fn zero_named(sheet: &[u8], count: usize, plan: &[u64]) -> bool
+    requires long { ⌜ length (now plan) ≡ planWords ⌝ }
+    requires located { ⌜ Located (now sheet) (now plan) ⌝ }
     requires counted { ⌜ count ≡ rowCount (now sheet) ⌝ }
     ensures { λ r. ⌜ r ≡ anyZero (sheetNames (now (sheet .entry))) ⌝ }
 {
     let mut i = 0;
     while i < count {
-        if has_zero(sheet, names[i], bodies[i]) {
+        let from = plan[NAME_FROM + i] as usize;
+        let until = plan[DATA_FROM + i] as usize;
+        if has_zero(sheet, from, until) {
             return true;
         }
         i += 1;
@@ -223,36 +225,32 @@ fn zero_named<'a>(
 }
 
 // Have rows i and j the same name?
-fn same_name<'a>(
-    sheet: &[u8],
-    names: &'a [usize; 65],
-    bodies: &'a [usize; 64],
-    i: usize,
-    j: usize,
-) -> bool
-    requires located { ⌜ Located (now sheet) (now names) (now bodies) ⌝ }
+fn same_name(sheet: &[u8], plan: &[u64], i: usize, j: usize) -> bool
+    requires long { ⌜ length (now plan) ≡ planWords ⌝ }
+    requires located { ⌜ Located (now sheet) (now plan) ⌝ }
     requires first { ⌜ i < rowCount (now sheet) ⌝ }
     requires second { ⌜ j < rowCount (now sheet) ⌝ }
     ensures { λ r. ⌜ r ≡ same (nameOf (now (sheet .entry)) i) (nameOf (now (sheet .entry)) j) ⌝ }
 {
-    let a = names[i];
-    let b = names[j];
-    let n = bodies[i] - a;
-    if bodies[j] - b != n {
+    let a = plan[NAME_FROM + i] as usize;
+    let b = plan[NAME_FROM + j] as usize;
+    let n = plan[DATA_FROM + i] as usize - a;
+    if plan[DATA_FROM + j] as usize - b != n {
         return false;
     }
     same_part(sheet, a, sheet, b, n)
 }
 
 // Has a row before row i the same name?
-fn repeated<'a>(sheet: &[u8], names: &'a [usize; 65], bodies: &'a [usize; 64], i: usize) -> bool
-    requires located { ⌜ Located (now sheet) (now names) (now bodies) ⌝ }
+fn repeated(sheet: &[u8], plan: &[u64], i: usize) -> bool
+    requires long { ⌜ length (now plan) ≡ planWords ⌝ }
+    requires located { ⌜ Located (now sheet) (now plan) ⌝ }
     requires row { ⌜ i < rowCount (now sheet) ⌝ }
     ensures { λ r. ⌜ r ≡ repeats (sheetNames (now (sheet .entry))) i ⌝ }
 {
     let mut j = 0;
     while j < i {
-        if same_name(sheet, names, bodies, j, i) {
+        if same_name(sheet, plan, j, i) {
             return true;
         }
         j += 1;
@@ -261,19 +259,15 @@ fn repeated<'a>(sheet: &[u8], names: &'a [usize; 65], bodies: &'a [usize; 64], i
 }
 
 // 27: have two rows the same name?
-fn twin_named<'a>(
-    sheet: &[u8],
-    count: usize,
-    names: &'a [usize; 65],
-    bodies: &'a [usize; 64],
-) -> bool
-    requires located { ⌜ Located (now sheet) (now names) (now bodies) ⌝ }
+fn twin_named(sheet: &[u8], count: usize, plan: &[u64]) -> bool
+    requires long { ⌜ length (now plan) ≡ planWords ⌝ }
+    requires located { ⌜ Located (now sheet) (now plan) ⌝ }
     requires counted { ⌜ count ≡ rowCount (now sheet) ⌝ }
     ensures { λ r. ⌜ r ≡ twins (sheetNames (now (sheet .entry))) ⌝ }
 {
     let mut i = 0;
     while i < count {
-        if repeated(sheet, names, bodies, i) {
+        if repeated(sheet, plan, i) {
             return true;
         }
         i += 1;
@@ -281,40 +275,35 @@ fn twin_named<'a>(
     false
 }
 
-fn names_number<'a>(
-    sheet: &[u8],
-    count: usize,
-    names: &'a [usize; 65],
-    bodies: &'a [usize; 64],
-) -> u64
-    requires located { ⌜ Located (now sheet) (now names) (now bodies) ⌝ }
+fn names_number(sheet: &[u8], count: usize, plan: &[u64]) -> u64
+    requires long { ⌜ length (now plan) ≡ planWords ⌝ }
+    requires located { ⌜ Located (now sheet) (now plan) ⌝ }
     requires counted { ⌜ count ≡ rowCount (now sheet) ⌝ }
     ensures { λ r. ⌜ r ≡ namesTest (now (sheet .entry)) ⌝ }
 {
-    if zero_named(sheet, count, names, bodies) {
+    if zero_named(sheet, count, plan) {
         return 26;
     }
-    if twin_named(sheet, count, names, bodies) {
+    if twin_named(sheet, count, plan) {
         return 27;
     }
     0
 }
 
-// 22 to 27, and where that is 0 where the rows' names and data lie.
-pub fn sheet_rows(sheet: &[u8]) -> SheetRows
-    ensures { λ r. ⌜ Found (now (sheet .entry)) (sheetTest (now (sheet .entry))) r ⌝ }
+// 22 to 27, and where that is 0 the plan says where the rows' names and data lie.
+pub fn sheet_rows(sheet: &[u8], plan: &mut [u64]) -> u64
+    requires { ⌜ length (now plan) ≡ planWords ⌝ }
+    ensures answer { λ r. ⌜ r ≡ sheetTest (now (sheet .entry)) ⌝ }
+    ensures rows { λ r. ⌜ (r ≡ 0 → Located (now (sheet .entry)) (now (plan .exit))) ⌝ }
 {
     let number = table_number(sheet);
     if number != 0 {
-        return refused(number);
+        return number;
     }
-    let rows = place_rows(sheet, u32_at(sheet, 0) as usize);
-    if rows.number != 0 {
-        return rows;
-    }
-    let number = names_number(sheet, rows.count, &rows.names, &rows.bodies);
+    let count = row_count(sheet);
+    let number = place_rows(sheet, count, plan);
     if number != 0 {
-        return refused(number);
+        return number;
     }
-    rows
+    names_number(sheet, count, plan)
 }

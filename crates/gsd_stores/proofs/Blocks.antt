@@ -17,6 +17,7 @@ use Rattle.gsd_format.proofs.Names.{Named}
 use Rattle.gsd_format.proofs.Entries.{entries-kept}
 use Rattle.gsd_format.proofs.Verdict.{Sound, front-same}
 use Rattle.gsd_stores.specs.View.{View, namelistEnd}
+use Rattle.gsd_stores.proofs.Texts.{size, stand-same}
 use Rattle.gsd_stores.proofs.View.{Is, is-long, Stage}
 
 -- A text and zeros
@@ -80,7 +81,7 @@ pub entries-length : {v : View} {x : List ℕ} → Is x v → length (listIn the
 entries-length {v} {x} h = part-length x (v .layout .index) (32 * length (v .entries)) (omega (arith, is-long h))
 
 -- both blocks of a stage are of that kind
-pub stage-housed : {x₀ : List ℕ} {v : View} {d : ℕ} {t : List ℕ} {x : List ℕ} (k : Block) → Stage x₀ v d t x →
+pub stage-housed : {x₀ : List ℕ} {v : View} {d : ℕ} {t : List (List ℕ)} {x : List ℕ} (k : Block) → Stage x₀ v d t x →
     Housed v x (startIn k (v .layout)) (unitOf k * countIn k (v .layout)) (listIn k x v)
 stage-housed {x₀} {v} {d} {t} {x} theIndex s = record {
   low = omega arith;
@@ -110,8 +111,8 @@ pub record Relaid (v : View) (x y : List ℕ) (l : Layout) (ns : List (List ℕ)
   pub good : Each Named ns
   pub more : length (v .names) ≤ length ns
 
-pub restage : {x₀ : List ℕ} {v : View} {d : ℕ} {t : List ℕ} {x y : List ℕ} {l : Layout} {ns : List (List ℕ)} → headerSize ≤ d →
-    Apart d (length t) (v .layout .namelist) (64 * v .layout .segments) → Relaid v x y l ns → Stage x₀ v d t x →
+pub restage : {x₀ : List ℕ} {v : View} {d : ℕ} {t : List (List ℕ)} {x y : List ℕ} {l : Layout} {ns : List (List ℕ)} → headerSize ≤ d →
+    Apart d (size d t) (v .layout .namelist) (64 * v .layout .segments) → Relaid v x y l ns → Stage x₀ v d t x →
     Stage x₀ (record { layout = l; entries = v .entries; names = ns }) d t y
 unfolding layoutOf
 restage {x₀} {v} {d} {t} {x} {y} {l} {ns} low off r s = record {
@@ -146,7 +147,7 @@ restage {x₀} {v} {d} {t} {x} {y} {l} {ns} low off r s = record {
   };
   index = clear;
   names = namesClear;
-  body = λ k a. r .outside (d + k) (λ c e. omega arith) (off (d + k) (omega arith) (omega arith)) ∙ s .body k a;
+  body = stand-same t d x y (λ p a b. r .outside p (λ c e. omega arith) (off p a (omega arith))) (s .body);
 }
   where
     long : l .len ≡ v .layout .len

@@ -13,14 +13,14 @@ use Rattle.gsd_format.specs.Names.{indexOf, Has}
 use Rattle.gsd_format.specs.Entries.{framesOf}
 use Rattle.gsd_format.specs.Opening.{verdict}
 use Rattle.gsd_format.specs.Lookup.{none, lookup, lookupIn}
-use Rattle.gsd_format.proofs.Bytes.{Text}
 use Rattle.gsd_format.proofs.Entries.{ShortIds, frames-below, ordered-front}
 use Rattle.gsd_format.proofs.Lookup.{Stands, find-sound, find-ordered, look-entry, look-found, opened-lookup}
 use Rattle.gsd_stores.specs.View.{View}
 use Rattle.gsd_stores.specs.Sheet.{Row}
-use Rattle.gsd_stores.specs.Plan.{Plan}
+use Rattle.gsd_stores.specs.Plan.{Plan, dataEnd}
 use Rattle.gsd_stores.specs.Demand3.{Recorded, Complete, noRow}
 use Rattle.gsd_stores.specs.Runs.{frames}
+use Rattle.gsd_stores.proofs.Texts.{Stand}
 use Rattle.gsd_stores.proofs.Sheet.{RowsOk}
 use Rattle.gsd_stores.proofs.Rows.{all-has}
 use Rattle.gsd_stores.proofs.Plan.{rowEntry, row-entry, named-row}
@@ -35,8 +35,8 @@ pub record Appended (v : View) (rs : List Row) (p : Plan) (y : List ℕ) (w : Vi
   pub opens : verdict y ≡ 0
   pub entries : w .entries ≡ v .entries ++ p .entries
   pub names : w .names ≡ v .names ++ p .fresh
-  pub body : Text y (p .start) (p .body)
-  pub long : p .start + length (p .body) ≤ length y
+  pub body : Stand y (p .start) (p .body)
+  pub long : dataEnd p ≤ length y
 
 module _ (v : View) (rs : List Row) (p : Plan) (y : List ℕ) (w : View) (h : Appended v rs p y w) (r : Ready v rs p)
     (ok : RowsOk rs) (ids : ShortIds (v .entries)) where
@@ -60,7 +60,13 @@ module _ (v : View) (rs : List Row) (p : Plan) (y : List ℕ) (w : View) (h : Ap
         entry = rowEntry v rs p i;
         found = look (framesOf (v .entries)) (getD rs i noRow .name) ∙ look-entry (v .entries ++ p .entries) (v .names ++ p .fresh) (framesOf (v .entries)) (getD rs i noRow .name) there (listed i l)
             ∙ find-ordered (framesOf (v .entries)) (indexOf (getD rs i noRow .name) (v .names ++ p .fresh)) (v .entries ++ p .entries) 0 0 (r .ordered) (rowEntry v rs p i)
-            (record { place = length (v .entries) + j; within = omega (arith, length-append (v .entries) (p .entries), e .entry); there = getD-append-add (v .entries) (p .entries) j none ∙ e .is; sameFrame = refl; sameId = refl });
+            (record {
+              place = length (v .entries) + j;
+              within = omega (arith, length-append (v .entries) (p .entries), e .entry);
+              there = getD-append-add (v .entries) (p .entries) j none ∙ e .is;
+              sameFrame = refl;
+              sameId = refl;
+            });
         sameN = refl;
         sameM = refl;
         sameType = refl;
@@ -70,7 +76,8 @@ module _ (v : View) (rs : List Row) (p : Plan) (y : List ℕ) (w : View) (h : Ap
   no-other : (name : List ℕ) → ((i : ℕ) → i < length rs → getD rs i noRow .name ≡ name → ⊥) → (e : Entry) → lookup y (framesOf (v .entries)) name ≡ Listed.Found e → ⊥
   no-other name f e g =
       let m = look-found (v .entries ++ p .entries) (v .names ++ p .fresh) (framesOf (v .entries)) name e .0 (sym (look (framesOf (v .entries)) name) ∙ g) in
-      let s : Stands (v .entries ++ p .entries) (framesOf (v .entries)) (indexOf name (v .names ++ p .fresh)) e = find-sound (framesOf (v .entries)) (indexOf name (v .names ++ p .fresh)) (v .entries ++ p .entries) e (m .2) in
+      let s : Stands (v .entries ++ p .entries) (framesOf (v .entries)) (indexOf name (v .names ++ p .fresh)) e
+      = find-sound (framesOf (v .entries)) (indexOf name (v .names ++ p .fresh)) (v .entries ++ p .entries) e (m .2) in
       go s (m .1) (decLt (s .place) (length (v .entries)))
     where
       go : (s : Stands (v .entries ++ p .entries) (framesOf (v .entries)) (indexOf name (v .names ++ p .fresh)) e) → Has name (v .names ++ p .fresh) → Dec (s .place < length (v .entries)) → ⊥

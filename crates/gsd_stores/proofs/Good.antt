@@ -28,8 +28,7 @@ ready v p = withIndexBlock (named v p) (indexBlock v p) (slotsAfter v p)
 
 pub record Good (v : View) (p : Plan) : Type 0 where
   pub namelistEven : v .layout .namelist % 8 ≡ 0
-  pub startEven : p .start % 8 ≡ 0
-  pub bodyEven : length (p .body) % 8 ≡ 0
+  pub bodyEven : Each (λ b. length b % 8 ≡ 0) (p .body)
   pub room : Room v (p .start) 0 (p .start)
   pub fresh : Each Named (p .fresh)
   pub moreSegments : v .layout .segments ≤ segmentsAfter v p

@@ -3,6 +3,7 @@
 pub mod Stores
 pub mod Phases
 -- What a sheet and a plan are.
+pub mod Texts
 pub mod Sheet
 pub mod Sorted
 pub mod Rows

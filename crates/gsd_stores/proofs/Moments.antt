@@ -48,7 +48,6 @@ room-use v pos e = record {
 pub ready-good : (v : View) (rs : List Row) (p : Plan) → Ready v rs p → Good v p
 ready-good v rs p r = record {
   namelistEven = r .evenNames;
-  startEven = r .plan .room .even;
   bodyEven = r .evenBody;
   room = room-use v (p .start) (r .plan .room);
   fresh = r .named;

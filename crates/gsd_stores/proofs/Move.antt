@@ -17,6 +17,7 @@ use Rattle.gsd_stores.specs.View.{View}
 use Rattle.gsd_stores.specs.Steps.{moved}
 use Rattle.gsd_stores.proofs.Stores.{Over, over-off}
 use Rattle.gsd_stores.proofs.Phases.{Phase, phase-nil, phase-one, _⨾_}
+use Rattle.gsd_stores.proofs.Texts.{size}
 use Rattle.gsd_stores.proofs.View.{indexLaid, namesLaid, withLayout, withIndexBlock, withNameBlock, is-long, free-behind, Room, room-laid}
 use Rattle.gsd_stores.proofs.View.{Base, Quiet, Stage, stage-behind, phase-quiet}
 use Rattle.gsd_stores.proofs.Blocks.{Filled, filled-text, Block, theIndex, theNames, unitOf, startIn, countIn, listIn}
@@ -108,7 +109,7 @@ units-more theIndex s n l = omega arith
 units-more theNames s n l = omega arith
 
 -- the new block is one of an image that shows v, with any count from the old one to the new one
-housed-moved : {x₀ : List ℕ} {v : View} {d : ℕ} {t : List ℕ} {x : List ℕ} (k : Block) (b s n : ℕ) → Stage x₀ v d t x → Room v d (length t) b →
+housed-moved : {x₀ : List ℕ} {v : View} {d : ℕ} {t : List (List ℕ)} {x : List ℕ} (k : Block) (b s n : ℕ) → Stage x₀ v d t x → Room v d (size d t) b →
     countIn k (v .layout) ≤ s → s ≤ n → b + unitOf k * n ≤ v .layout .len → Filled x b (unitOf k * n) (listIn k x v) →
     Housed v x b (unitOf k * s) (listIn k x v)
 housed-moved {v} k b s n stage room low high fits f = record {
@@ -120,7 +121,7 @@ housed-moved {v} k b s n stage room low high fits f = record {
 }
 
 -- with the header's two words it is the block, and the other one stays
-relaid : {x₀ : List ℕ} {v : View} {d : ℕ} {t : List ℕ} {x y : List ℕ} (k : Block) {b s : ℕ} → Stage x₀ v d t x → Room v d (length t) b →
+relaid : {x₀ : List ℕ} {v : View} {d : ℕ} {t : List (List ℕ)} {x y : List ℕ} (k : Block) {b s : ℕ} → Stage x₀ v d t x → Room v d (size d t) b →
     Housed v x b (unitOf k * s) (listIn k x v) → Headed k x y b s → Relaid v x y (laid k (v .layout) b s) (v .names)
 relaid {v} {x} {y} k {b} {s} stage room new h =
     let blocks = both k (kept new) in record {
@@ -144,18 +145,18 @@ relaid {v} {x} {y} k {b} {s} stage room new h =
     both theNames q = (λ p c e f g. omega arith, kept (stage-housed theIndex stage), q)
 
 -- a stage whose new block is filled with the text
-pub record Copied (x₀ : List ℕ) (v : View) (d : ℕ) (t : List ℕ) (b n : ℕ) (text x : List ℕ) : Type 0 where
+pub record Copied (x₀ : List ℕ) (v : View) (d : ℕ) (t : List (List ℕ)) (b n : ℕ) (text x : List ℕ) : Type 0 where
   pub stage : Stage x₀ v d t x
   pub filled : Filled x b n text
 
 -- such a stage but for the block's words in the header
-pub record Placed (x₀ : List ℕ) (v : View) (d : ℕ) (t : List ℕ) (k : Block) (b n : ℕ) (text : List ℕ) (s : ℕ) (x : List ℕ) : Type 0 where
+pub record Placed (x₀ : List ℕ) (v : View) (d : ℕ) (t : List (List ℕ)) (k : Block) (b n : ℕ) (text : List ℕ) (s : ℕ) (x : List ℕ) : Type 0 where
   pub old : List ℕ
   pub copied : Copied x₀ v d t b (unitOf k * n) text old
   pub headed : Headed k old x b s
 
-module _ {x₀ : List ℕ} {v : View} {d : ℕ} {t : List ℕ} (k : Block) (b n : ℕ) (text : List ℕ)
-    (room : Room v d (length t) b) (more : countIn k (v .layout) ≤ n) (fits : b + unitOf k * n ≤ v .layout .len)
+module _ {x₀ : List ℕ} {v : View} {d : ℕ} {t : List (List ℕ)} (k : Block) (b n : ℕ) (text : List ℕ)
+    (room : Room v d (size d t) b) (more : countIn k (v .layout) ≤ n) (fits : b + unitOf k * n ≤ v .layout .len)
     (lists : (x : List ℕ) → Stage x₀ v d t x → listIn k x v ≡ text) where
   -- whatever its count is, from the old one to the new one
   placed-stage : {x : List ℕ} {s : ℕ} → countIn k (v .layout) ≤ s → s ≤ n → Placed x₀ v d t k b n text s x → Stage x₀ (withBlock k v b s) d t x
@@ -217,31 +218,32 @@ block-stays : (k : Block) (v : View) → withBlock k v (startIn k (v .layout)) (
 block-stays theIndex v = refl
 block-stays theNames v = refl
 
-pub move-step : {x₀ : List ℕ} {W : List ℕ → List ℕ → Type 0} {v : View} {d : ℕ} {t : List ℕ} (k : Block) (flag : Bool) (b n : ℕ) (text : List ℕ) →
-    Room v d (length t) b → countIn k (v .layout) ≤ cond flag n (countIn k (v .layout)) → cond flag (b + unitOf k * n) b ≤ v .layout .len →
+pub move-step : {x₀ : List ℕ} {W : List ℕ → List ℕ → Type 0} {v : View} {d : ℕ} {t : List (List ℕ)} (k : Block) (flag : Bool) (b n : ℕ) (text : List ℕ) →
+    Room v d (size d t) b → countIn k (v .layout) ≤ cond flag n (countIn k (v .layout)) → (flag ≡ true → b + unitOf k * n ≤ v .layout .len) →
     ((x : List ℕ) → Stage x₀ v d t x → listIn k x v ≡ text) → Quiet x₀ W v →
     Phase (Stage x₀ v d t) (Stage x₀ (ifMoved k flag v b n) d t) W (moved flag b (wordsIn k * n) text (headerPlace k) n)
 unfolding moved
-move-step k true b n text room more fits lists quiet = move-block k b n text room more fits lists quiet
+move-step k true b n text room more fits lists quiet = move-block k b n text room more (fits refl) lists quiet
 move-step {v} k false b n text room more fits lists quiet = rw (block-stays k v) phase-nil
 
--- and the room behind it
-pub room-step : {v : View} {d m : ℕ} (k : Block) (flag : Bool) (b n : ℕ) → Room v d m b → Room (ifMoved k flag v b n) d m (cond flag (b + unitOf k * n) b)
-room-step {v} k false b n r = rw (block-stays k v) r
-room-step {v} theIndex true b n r =
+-- and the room behind it: a is where all ended before
+pub room-step : {v : View} {d m : ℕ} (k : Block) (flag : Bool) (a b n : ℕ) → a ≤ b → Room v d m a →
+    Room (ifMoved k flag v b n) d m (cond flag (b + unitOf k * n) a)
+room-step {v} k false a b n h r = rw (block-stays k v) r
+room-step {v} theIndex true a b n h r =
     room-laid r (laid theIndex (v .layout) b n) (v .names) (b + 32 * n) (omega arith) (omega arith) (omega arith) (λ p c e f g. omega arith) (r .offNames)
-room-step {v} theNames true b n r =
+room-step {v} theNames true a b n h r =
     room-laid r (laid theNames (v .layout) b n) (v .names) (b + 64 * n) (omega arith) (omega arith) (omega arith) (r .offIndex) (λ p c e f g. omega arith)
 
-module _ {x₀ : List ℕ} {W : List ℕ → List ℕ → Type 0} {v : View} {d : ℕ} {t : List ℕ} (flag : Bool) (b n : ℕ) (room : Room v d (length t) b) where
-  pub names-step : v .layout .segments ≤ cond flag n (v .layout .segments) → cond flag (b + 64 * n) b ≤ v .layout .len → Quiet x₀ W v →
+module _ {x₀ : List ℕ} {W : List ℕ → List ℕ → Type 0} {v : View} {d : ℕ} {t : List (List ℕ)} (flag : Bool) (b n : ℕ) (room : Room v d (size d t) b) where
+  pub names-step : v .layout .segments ≤ cond flag n (v .layout .segments) → (flag ≡ true → b + 64 * n ≤ v .layout .len) → Quiet x₀ W v →
       Phase (Stage x₀ v d t) (Stage x₀ (withNameBlock v (cond flag b (v .layout .namelist)) (cond flag n (v .layout .segments))) d t) W
       (moved flag b (8 * n) (flat (v .names)) 24 n)
   names-step more fits = move-step theNames flag b n (flat (v .names)) room more fits (λ x s. refl)
 
   -- the entries' bytes are those of the beginning, where the index block began at a
   pub index-step : (a : ℕ) → layoutOf x₀ .index ≡ a → a + 32 * length (v .entries) ≤ length x₀ →
-      v .layout .slots ≤ cond flag n (v .layout .slots) → cond flag (b + 32 * n) b ≤ v .layout .len → Quiet x₀ W v →
+      v .layout .slots ≤ cond flag n (v .layout .slots) → (flag ≡ true → b + 32 * n ≤ v .layout .len) → Quiet x₀ W v →
       Phase (Stage x₀ v d t) (Stage x₀ (withIndexBlock v (cond flag b (v .layout .index)) (cond flag n (v .layout .slots))) d t) W
       (moved flag b (4 * n) (part x₀ a (32 * length (v .entries))) 8 n)
   index-step a e l more fits =

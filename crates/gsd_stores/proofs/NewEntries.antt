@@ -21,6 +21,7 @@ use Rattle.gsd_stores.specs.View.{View, indexEnd, entriesEnd, namesEnd}
 use Rattle.gsd_stores.specs.Steps.{entryBytes, indexBytes, storeEntries}
 use Rattle.gsd_stores.proofs.Stores.{Over, between, over-off}
 use Rattle.gsd_stores.proofs.Phases.{Phase, Begun, phase-slots}
+use Rattle.gsd_stores.proofs.Texts.{Stand, size, stand-same}
 use Rattle.gsd_stores.proofs.View.{withEntries, Is, is-long, Keeps, free-index, Chunks, Base, base-kept, Passes, IndexClear, Stage}
 
 -- The bytes of entries
@@ -84,11 +85,11 @@ index-entry x at es i l f t = entry-text x (at + 32 * i) (getD es i none) f (λ 
 -- The step
 
 -- the image after an append: the new entries are listed behind the old ones, which have the bytes that they had
-pub record Final (x₀ : List ℕ) (v : View) (new : List Entry) (d : ℕ) (t : List ℕ) (x : List ℕ) : Type 0 where
+pub record Final (x₀ : List ℕ) (v : View) (new : List Entry) (d : ℕ) (t : List (List ℕ)) (x : List ℕ) : Type 0 where
   pub is : Is x (withEntries v (v .entries ++ new))
   pub raw : Same x (v .layout .index) x₀ (layoutOf x₀ .index) (32 * length (v .entries))
   pub chunks : Chunks x₀ x (v .entries)
-  pub body : Text x d t
+  pub body : Stand x d t
 
 -- slots that are begun are free places
 begun-keeps : {v : View} {x y : List ℕ} (n : ℕ) → length (v .entries) + n ≤ v .layout .slots → Is x v → Begun x (entriesEnd v) n y → Keeps v x y
@@ -136,10 +137,10 @@ module _ (v : View) {x y : List ℕ} (new : List Entry) (few : length (v .entrie
       end : ℕ
       end = entriesEnd v + 32 * length new + 16
 
-pub store-entries : {x₀ : List ℕ} {W : List ℕ → List ℕ → Type 0} {v : View} (new : List Entry) (d : ℕ) (t : List ℕ) →
+pub store-entries : {x₀ : List ℕ} {W : List ℕ → List ℕ → Type 0} {v : View} (new : List Entry) (d : ℕ) (t : List (List ℕ)) →
     Passes x₀ W v v → ((a b : List ℕ) → Base x₀ v a → Final x₀ v new d t b → W a b) →
     length (v .entries) + length new ≤ v .layout .slots → AllSound (v .layout) (length (v .names)) new → ((i : ℕ) → i < length new → Fits (getD new i none)) →
-    Apart d (length t) (v .layout .index) (32 * v .layout .slots) → Phase (Stage x₀ v d t) (Final x₀ v new d t) W (storeEntries (entriesEnd v) new)
+    Apart d (size d t) (v .layout .index) (32 * v .layout .slots) → Phase (Stage x₀ v d t) (Final x₀ v new d t) W (storeEntries (entriesEnd v) new)
 unfolding storeEntries
 store-entries {x₀} {v = v} new d t same last few sound exact off =
     phase-slots {M = Base x₀ v} same last (indexBytes new) (entriesEnd v) (entriesEnd v) (length new) (omega arith)
@@ -151,5 +152,5 @@ store-entries {x₀} {v = v} new d t same last few sound exact off =
       chunks = λ i l k m.
           outside-index v new few o (getD (v .entries) i none .location + k) (λ a b. s .base .is .sound i l .offIndex _ (omega arith) (omega arith) a b)
           ∙ s .base .chunks i l k m;
-      body = λ k l. outside-index v new few o (d + k) (λ a b. off _ (omega arith) (omega arith) a b) ∙ s .body k l;
+      body = stand-same t d x y (λ p l m. outside-index v new few o p (λ a b. off _ l (omega arith) a b)) (s .body);
     })

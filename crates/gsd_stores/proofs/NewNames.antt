@@ -17,6 +17,7 @@ use Rattle.gsd_stores.specs.View.{View, namesEnd, namelistEnd}
 use Rattle.gsd_stores.specs.Steps.{storeName, storeNames}
 use Rattle.gsd_stores.proofs.Stores.{Over, over-off}
 use Rattle.gsd_stores.proofs.Phases.{Phase, phase-nil, phase-down, _⨾_}
+use Rattle.gsd_stores.proofs.Texts.{size}
 use Rattle.gsd_stores.proofs.View.{withNames, is-long, free-names, keeps-over, Base, base-kept, Passes, Stage}
 use Rattle.gsd_stores.proofs.Blocks.{Filled, theIndex, theNames, housed-kept, stage-housed, Relaid, restage}
 
@@ -53,8 +54,8 @@ name-words : (block size name n : ℕ) → block % 8 ≡ 0 → 0 < name → size
     (block ≤ first / 8 * 8) × (first + name ≤ first / 8 * 8 + 8 * count) × (first / 8 * 8 + 8 * count ≤ block + 64 * n)
 name-words block size name n even some fits = (omega arith, omega arith, omega arith)
 
-module _ {x₀ : List ℕ} {v : View} {d : ℕ} {t : List ℕ} (b : List ℕ) (low : headerSize ≤ d)
-    (off : Apart d (length t) (v .layout .namelist) (64 * v .layout .segments)) (even : v .layout .namelist % 8 ≡ 0) (name : Named b)
+module _ {x₀ : List ℕ} {v : View} {d : ℕ} {t : List (List ℕ)} (b : List ℕ) (low : headerSize ≤ d)
+    (off : Apart d (size d t) (v .layout .namelist) (64 * v .layout .segments)) (even : v .layout .namelist % 8 ≡ 0) (name : Named b)
     (fits : length (flat (v .names)) + length b + 1 ≤ 64 * v .layout .segments) where
   -- after its last store the name is in the list
   named-stage : {x y : List ℕ} {lo hi : ℕ} → Stage x₀ v d t x → Over x (flat (v .names) ++ b) (v .layout .namelist) lo hi y →
@@ -104,8 +105,8 @@ NamesPass x₀ W v bs =
     (ns ms : List (List ℕ)) (i j : ℕ) → i ≤ j → ns ≡ v .names ++ take i bs → ms ≡ v .names ++ take j bs → Passes x₀ W (withNames v ns) (withNames v ms)
 
 -- the list grows name by name
-pub all-names : {x₀ : List ℕ} {W : List ℕ → List ℕ → Type 0} (v : View) {d : ℕ} {t : List ℕ} (bs : List (List ℕ)) → headerSize ≤ d →
-    Apart d (length t) (v .layout .namelist) (64 * v .layout .segments) → v .layout .namelist % 8 ≡ 0 → Each Named bs →
+pub all-names : {x₀ : List ℕ} {W : List ℕ → List ℕ → Type 0} (v : View) {d : ℕ} {t : List (List ℕ)} (bs : List (List ℕ)) → headerSize ≤ d →
+    Apart d (size d t) (v .layout .namelist) (64 * v .layout .segments) → v .layout .namelist % 8 ≡ 0 → Each Named bs →
     length (flat (v .names)) + length (flat bs) ≤ 64 * v .layout .segments → NamesPass x₀ W v bs →
     Phase (Stage x₀ v d t) (Stage x₀ (withNames v (v .names ++ bs)) d t) W (storeNames (v .layout .namelist) (v .names) bs)
 unfolding storeNames

@@ -21,6 +21,10 @@ pub phase-nil : {P : List ℕ → Type 0} {W : List ℕ → List ℕ → Type 0}
 unfolding after
 phase-nil = record { during = λ img p k h. absurd (omega arith); final = λ img p. p }
 
+pub phase-weaken : {P P′ Q Q′ : List ℕ → Type 0} {W : List ℕ → List ℕ → Type 0} {xs : List Store} →
+    ((x : List ℕ) → P′ x → P x) → ((x : List ℕ) → Q x → Q′ x) → Phase P Q W xs → Phase P′ Q′ W xs
+phase-weaken p q f = record { during = λ img h. f .during img (p img h); final = λ img h. q _ (f .final img (p img h)) }
+
 infixl 20 _⨾_
 pub _⨾_ : {P Q R : List ℕ → Type 0} {W : List ℕ → List ℕ → Type 0} {xs ys : List Store} → Phase P Q W xs → Phase Q R W ys → Phase P R W (xs ++ ys)
 _⨾_ {P} {Q} {R} {W} {xs} {ys} f g = record {
@@ -39,7 +43,7 @@ _⨾_ {P} {Q} {R} {W} {xs} {ys} f g = record {
         = ap (λ n. after img (take n (xs ++ ys))) (let e : suc k ≡ length xs + suc j = omega arith in e) ∙ after-second img (suc j) xs ys in
         rw (before, behind) (g .during (after img xs) (f .final img p) j (omega (arith, length-append xs ys)))
 
--- Runs. Before each store the image is that after the words at the first k places, which has M; W holds from M to M, and from M to Q,
+-- Extents. Before each store the image is that after the words at the first k places, which has M; W holds from M to M, and from M to Q,
 -- which the image after the last store has
 
 module _ {P Q M : List ℕ → Type 0} {W : List ℕ → List ℕ → Type 0}

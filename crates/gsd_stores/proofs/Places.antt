@@ -2,7 +2,7 @@
 use Prim.Native.Nat.{ℕ, _+_, _*_, _-_, _/_, _%_, _≤_, _<_}
 use mathlib.Core.Path.{_≡_, refl, ap}
 use mathlib.Core.Logic.{_⊎_, inl, inr}
-use mathlib.Core.Bool.{Bool, true, false, cond}
+use mathlib.Core.Bool.{Bool, true, false}
 use mathlib.Core.List.{List, [], _∷_, _++_}
 use native.Mathlib.Omega.{arith}
 use lib.ListN.{length}
@@ -12,15 +12,17 @@ use Rattle.gsd_format.specs.Names.{flat}
 use Rattle.gsd_format.proofs.Lists.{Each, each-append}
 use Rattle.gsd_format.proofs.Names.{Named, flat-none, flat-size, flat-sizes}
 use Rattle.gsd_stores.specs.Stores.{Store, words, up}
-use Rattle.gsd_stores.specs.View.{View, viewOf, entriesEnd, namesEnd, namelistEnd}
+use Rattle.gsd_stores.specs.View.{View, viewOf, aligned, entriesEnd, namesEnd, namelistEnd}
 use Rattle.gsd_stores.specs.Sheet.{Row, rowsOf}
-use Rattle.gsd_stores.specs.Plan.{Plan, planOf, dataEnd, namesDone}
-use Rattle.gsd_stores.specs.Steps.{clearIndex, clearNames, storeData, moved, moveNames, storeName, storeNames, moveIndex, storeEntries, nameBlock, indexBlock, indexBytes, stepsOf}
+use Rattle.gsd_stores.specs.Plan.{Plan, endFrom, planOf, dataEnd, namesStart, namesDone, indexStart}
+use Rattle.gsd_stores.specs.Steps.{clearIndex, clearNames, storeTexts, storeData, moved, moveNames, storeName, storeNames}
+use Rattle.gsd_stores.specs.Steps.{moveIndex, storeEntries, nameBlock, indexBlock, indexBytes, stepsOf}
 use Rattle.gsd_stores.specs.Append.{appendTest, storesFor}
 use Rattle.gsd_stores.specs.Runs.{Bytes}
 use Rattle.gsd_stores.proofs.Stores.{Fills, up-fills, down-fills, slots-fills, fills-stores}
+use Rattle.gsd_stores.proofs.Texts.{end-more}
 use Rattle.gsd_stores.proofs.View.{Is, is-long}
-use Rattle.gsd_stores.proofs.Plan.{positions, positions-even, chosen, segmentsAfter}
+use Rattle.gsd_stores.proofs.Plan.{positions, chosen, taken, segmentsAfter}
 use Rattle.gsd_stores.proofs.Valid.{Valid, valid, Ready, ready}
 use Rattle.gsd_stores.proofs.Shown.{opens-shown}
 use Rattle.gsd_stores.proofs.Moments.{stores-are}
@@ -31,7 +33,7 @@ HeaderWord a = (a ≡ 8) ⊎ ((a ≡ 16) ⊎ ((a ≡ 24) ⊎ (a ≡ 32)))
 
 -- a store in a slice of so many bytes
 pub record Placed (len : ℕ) (s : Store) : Type 0 where
-  pub aligned : s .place % 8 ≡ 0
+  pub even : s .place % 8 ≡ 0
   pub inside : s .place + 8 ≤ len
   pub outside : s .place < headerSize → HeaderWord (s .place)
 
@@ -44,17 +46,14 @@ _⊹_ : {len : ℕ} {xs ys : List Store} → AllPlaced len xs → AllPlaced len 
 _⊹_ {len} {xs} {ys} h g = record { each = each-append (Placed len) xs ys (h .each) (g .each) }
 
 -- words behind the header
-placed-run : {lo n : ℕ} {l : List ℕ} (len : ℕ) → Fills lo n l → (t : List ℕ) (base : ℕ) → lo % 8 ≡ 0 → headerSize ≤ lo → lo + 8 * n ≤ len → AllPlaced len (words t base l)
-placed-run len f t base e h g = record {
-  each = fills-stores (Placed len) f t base (λ k l. record { aligned = omega arith; inside = omega arith; outside = λ o. absurd (omega arith) });
+placed-extent : {lo n : ℕ} {l : List ℕ} (len : ℕ) → Fills lo n l → (t : List ℕ) (base : ℕ) → lo % 8 ≡ 0 → headerSize ≤ lo → lo + 8 * n ≤ len → AllPlaced len (words t base l)
+placed-extent len f t base e h g = record {
+  each = fills-stores (Placed len) f t base (λ k l. record { even = omega arith; inside = omega arith; outside = λ o. absurd (omega arith) });
 }
 
 placed-word : (len : ℕ) (t : List ℕ) (a : ℕ) → headerSize ≤ len → a % 8 ≡ 0 → a ≤ 32 → HeaderWord a → AllPlaced len (words t a (up a 1))
 unfolding words up
-placed-word len t a h e b w = record { each = (record { aligned = e; inside = omega arith; outside = λ o. w }, tt) }
-
-taken : (t : Bool) (a b : ℕ) → t ≡ true → cond t a b ≡ a
-taken t a b e = rw e
+placed-word len t a h e b w = record { each = (record { even = e; inside = omega arith; outside = λ o. w }, tt) }
 
 -- a block that moves, and its two header words
 placed-moved : (flag : Bool) (len b n : ℕ) (t : List ℕ) (h count : ℕ) → b % 8 ≡ 0 → headerSize ≤ b → (flag ≡ true → b + 8 * n ≤ len) → headerSize ≤ len →
@@ -62,7 +61,7 @@ placed-moved : (flag : Bool) (len b n : ℕ) (t : List ℕ) (h count : ℕ) → 
 unfolding moved
 placed-moved false len b n t h count e l f g i j u w = record { each = tt }
 placed-moved true len b n t h count e l f g i j u w =
-    placed-run len (up-fills b n) t b e l (f refl)
+    placed-extent len (up-fills b n) t b e l (f refl)
     ⊹ placed-word len (leBytes 8 b) h g i (omega arith) u
     ⊹ placed-word len (leBytes 8 count) (h + 8) g (omega arith) (omega arith) w
 
@@ -72,7 +71,7 @@ placed-name : (len block hi : ℕ) (before name : List ℕ) → block % 8 ≡ 0 
 unfolding storeName
 placed-name len block hi before name e l h g s f =
     let first : ℕ = block + length before in
-    placed-run len (down-fills (first / 8 * 8) ((first + length name - 1) / 8 - first / 8 + 1)) (before ++ name) block (omega arith) (omega arith) (omega arith)
+    placed-extent len (down-fills (first / 8 * 8) ((first + length name - 1) / 8 - first / 8 + 1)) (before ++ name) block (omega arith) (omega arith) (omega arith)
 
 placed-names : (fresh names : List (List ℕ)) (len block hi : ℕ) → block % 8 ≡ 0 → headerSize ≤ block → hi % 8 ≡ 0 → hi ≤ len → Each Named fresh →
     block + length (flat names) + length (flat fresh) ≤ hi → AllPlaced len (storeNames block names fresh)
@@ -86,13 +85,20 @@ placed-names (b ∷ bs) names len block hi e l h g n f =
     placed-name len block hi (flat names) b e l h g (n .0 .some) (omega arith)
     ⊹ (placed-names bs (names ++ b ∷ []) len block hi e l h g (n .1) (omega arith))
 
+placed-texts : (len : ℕ) (bs : List (List ℕ)) (pos : ℕ) → headerSize ≤ pos → Each (λ b. length b % 8 ≡ 0) bs → endFrom pos bs ≤ len →
+    AllPlaced len (storeTexts pos bs)
+unfolding storeTexts endFrom
+placed-texts len [] pos l e f = record { each = tt }
+placed-texts len (b ∷ bs) pos l e f =
+    placed-extent len (up-fills (aligned pos) (length b / 8)) b (aligned pos) (omega arith) (omega arith) (omega (arith, end-more bs (aligned pos + length b)))
+    ⊹ placed-texts len bs (aligned pos + length b) (omega arith) (e .1) f
+
 -- the blocks of an append lie at multiples of 8 after steps 3 and 5 too
 pub blocks-even : (v : View) (rs : List Row) (p : Plan) → Ready v rs p → (nameBlock v p % 8 ≡ 0) × (indexBlock v p % 8 ≡ 0)
-blocks-even v rs p r =
-    let even = positions-even v rs p (r .plan) in (
-      chosen (λ k. k % 8 ≡ 0) (p .namesMove) (dataEnd p) (v .layout .namelist) (even .0) (λ e. r .evenNames),
-      chosen (λ k. k % 8 ≡ 0) (p .indexMoves) (namesDone p) (v .layout .index) (even .1) (λ e. r .evenIndex),
-    )
+blocks-even v rs p r = (
+  chosen (λ k. k % 8 ≡ 0) (p .namesMove) (namesStart p) (v .layout .namelist) (omega arith) (λ e. r .evenNames),
+  chosen (λ k. k % 8 ≡ 0) (p .indexMoves) (indexStart p) (v .layout .index) (omega arith) (λ e. r .evenIndex),
+)
 
 module _ (x : List ℕ) (rs : List Row) (ok : Valid x rs) where
   abbrev v : View
@@ -110,24 +116,19 @@ module _ (x : List ℕ) (rs : List Row) (ok : Valid x rs) where
   index-placed : AllPlaced (v .layout .len) (clearIndex v)
   unfolding clearIndex
   index-placed =
-      placed-run (v .layout .len) (up-fills (entriesEnd v) (4 * (v .layout .slots - length (v .entries)))) [] 0
+      placed-extent (v .layout .len) (up-fills (entriesEnd v) (4 * (v .layout .slots - length (v .entries)))) [] 0
       (omega (arith, r .evenIndex)) (omega (arith, is .blocks .indexLow)) (omega (arith, is .blocks .indexHigh, is .entries .few))
 
   names-placed : AllPlaced (v .layout .len) (clearNames v)
   unfolding clearNames
   names-placed =
       let first : ℕ = namesEnd v / 8 * 8 in
-      placed-run (v .layout .len) (up-fills first ((namelistEnd (v .layout) - first) / 8)) (flat (v .names)) (v .layout .namelist)
+      placed-extent (v .layout .len) (up-fills first ((namelistEnd (v .layout) - first) / 8)) (flat (v .names)) (v .layout .namelist)
       (omega arith) (omega (arith, r .evenNames, is .blocks .namelistLow)) (omega (arith, is .blocks .namelistHigh, is .names .few))
 
   data-placed : AllPlaced (v .layout .len) (storeData p)
-  unfolding storeData
   data-placed =
-      placed-run (v .layout .len) (up-fills (p .start) (length (p .body) / 8)) (p .body) (p .start)
-      (r .plan .room .even) (r .plan .room .header) (omega (arith, positions p .0, positions p .1, r .fits))
-
-  data-even : dataEnd p % 8 ≡ 0
-  data-even = positions-even v rs p (r .plan) .0
+      placed-texts (v .layout .len) (p .body) (p .start) (r .plan .room .header) (r .evenBody) (omega (arith, positions p .0, positions p .1, r .fits))
 
   names-even : nameBlock v p % 8 ≡ 0
   names-even = blocks-even v rs p r .0
@@ -141,18 +142,19 @@ module _ (x : List ℕ) (rs : List Row) (ok : Valid x rs) where
   pub all-placed : AllPlaced (v .layout .len) (stepsOf x v p)
   unfolding stepsOf moveNames moveIndex storeEntries
   all-placed =
-      let low : headerSize ≤ dataEnd p = omega (arith, r .plan .room .header) in
+      let low : headerSize ≤ dataEnd p = omega (arith, r .plan .room .header, end-more (p .body) (p .start)) in
       index-placed
       ⊹ names-placed
       ⊹ data-placed
-      ⊹ placed-moved (p .namesMove) (v .layout .len) (dataEnd p) (8 * p .segments) (flat (v .names)) 24 (p .segments) data-even low
-      (λ m. omega (arith, taken (p .namesMove) (dataEnd p + 64 * p .segments) (dataEnd p) m, positions p .1, r .fits)) header refl (omega arith) (inr (inr (inl refl))) (inr (inr (inr refl)))
+      ⊹ placed-moved (p .namesMove) (v .layout .len) (namesStart p) (8 * p .segments) (flat (v .names)) 24 (p .segments) (omega arith) (omega arith)
+      (λ m. omega (arith, taken (p .namesMove) (namesStart p + 64 * p .segments) (dataEnd p) m, positions p .1, r .fits)) header refl (omega arith)
+      (inr (inr (inl refl))) (inr (inr (inr refl)))
       ⊹ placed-names (p .fresh) (v .names) (v .layout .len) (nameBlock v p) (nameBlock v p + 64 * segmentsAfter v p) names-even (r .blocks .namelistLow)
       (omega (arith, names-even)) (r .blocks .namelistHigh) (r .named) (omega (arith, r .plan .namesFit))
-      ⊹ placed-moved (p .indexMoves) (v .layout .len) (namesDone p) (4 * p .slots) (part x (v .layout .index) (32 * length (v .entries))) 8 (p .slots)
-      (positions-even v rs p (r .plan) .1) (omega (arith, positions p .0))
-      (λ m. omega (arith, taken (p .indexMoves) (namesDone p + 32 * p .slots) (namesDone p) m, r .fits)) header refl (omega arith) (inl refl) (inr (inl refl))
-      ⊹ placed-run (v .layout .len) (slots-fills (indexBlock v p + 32 * length (v .entries)) (length (p .entries))) (indexBytes (p .entries)) (indexBlock v p + 32 * length (v .entries))
+      ⊹ placed-moved (p .indexMoves) (v .layout .len) (indexStart p) (4 * p .slots) (part x (v .layout .index) (32 * length (v .entries))) 8 (p .slots)
+      (omega arith) (omega (arith, positions p .0))
+      (λ m. omega (arith, taken (p .indexMoves) (indexStart p + 32 * p .slots) (namesDone p) m, r .fits)) header refl (omega arith) (inl refl) (inr (inl refl))
+      ⊹ placed-extent (v .layout .len) (slots-fills (indexBlock v p + 32 * length (v .entries)) (length (p .entries))) (indexBytes (p .entries)) (indexBlock v p + 32 * length (v .entries))
       (omega (arith, index-even)) (omega (arith, r .blocks .indexLow)) (omega (arith, r .blocks .indexHigh, r .plan .entriesFit))
 
 -- every store of an append lies at a multiple of 8 inside the slice, and outside the header but for its four words

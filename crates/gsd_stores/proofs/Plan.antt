@@ -17,12 +17,13 @@ use Rattle.gsd_format.specs.Lookup.{none}
 use Rattle.gsd_format.proofs.Lists.{Each, Any, each-at, at-each, any-at, at-any}
 use Rattle.gsd_format.proofs.Ids.{index-inj}
 use Rattle.gsd_stores.specs.Sheet.{Row}
-use Rattle.gsd_stores.specs.View.{View, indexEnd, namelistEnd, endOfUse}
-use Rattle.gsd_stores.specs.Plan.{Plan, bodies, newNames, newEntries, sorted, doubled, grown, planOf, dataEnd, namesDone, finalPosition, bodyOffset}
+use Rattle.gsd_stores.specs.View.{View, alignment, aligned, indexEnd, namelistEnd, endOfUse}
+use Rattle.gsd_stores.specs.Plan.{Plan, bodies, bodyPlace, newNames, newEntries, sorted, doubled, grown, planOf}
+use Rattle.gsd_stores.specs.Plan.{dataEnd, namesStart, namesDone, indexStart, finalPosition}
 use Rattle.gsd_stores.specs.Steps.{nameBlock, indexBlock}
 use Rattle.gsd_stores.specs.Demand3.{noRow}
 use Rattle.gsd_stores.proofs.Sorted.{sorted-length, sorted-each, sorted-any}
-use Rattle.gsd_stores.proofs.Rows.{bodies-even, newEntry, new-length, new-at}
+use Rattle.gsd_stores.proofs.Rows.{bodies-even, end-even, newEntry, new-length, new-at}
 
 -- Growth of a block
 
@@ -80,14 +81,14 @@ chunk-end [] i l = absurd (omega arith)
 chunk-end (e ∷ es) zero l = omega arith
 chunk-end (e ∷ es) (suc i) l = omega (arith, chunk-end es i (omega arith))
 
--- all that v shows ends at pos, the first multiple of 8 where it does
+-- all that v shows ends at pos, the first aligned place where it does
 pub record EndOfUse (v : View) (pos : ℕ) : Type 0 where
   pub even : pos % 8 ≡ 0
   pub header : 256 ≤ pos
   pub index : indexEnd (v .layout) ≤ pos
   pub names : namelistEnd (v .layout) ≤ pos
   pub chunks : (i : ℕ) → i < length (v .entries) → getD (v .entries) i none .location + chunkSize (getD (v .entries) i none) ≤ pos
-  pub least : pos < max 256 (max (indexEnd (v .layout)) (max (namelistEnd (v .layout)) (chunksEnd (v .entries)))) + 8
+  pub least : pos < max 256 (max (indexEnd (v .layout)) (max (namelistEnd (v .layout)) (chunksEnd (v .entries)))) + alignment
 
 pub end-of-use : (v : View) → EndOfUse v (endOfUse v)
 unfolding endOfUse
@@ -123,7 +124,7 @@ abbrev pub rowEntries : View → List Row → Plan → List Entry
 rowEntries v rs p = newEntries (p .start) (framesOf (v .entries)) (namesAfter v p) rs
 
 abbrev pub rowEntry : View → List Row → Plan → ℕ → Entry
-rowEntry v rs p i = newEntry (p .start + bodyOffset rs i) (framesOf (v .entries)) (namesAfter v p) (getD rs i noRow)
+rowEntry v rs p i = newEntry (bodyPlace (p .start) rs i) (framesOf (v .entries)) (namesAfter v p) (getD rs i noRow)
 
 -- a plan and the rows that it is made for
 pub record Planned (v : View) (rs : List Row) (p : Plan) : Type 0 where
@@ -144,6 +145,9 @@ pub record Planned (v : View) (rs : List Row) (p : Plan) : Type 0 where
 pub chosen : (P : ℕ → Type 0) (moves : Bool) (new old : ℕ) → P new → (moves ≡ false → P old) → P (cond moves new old)
 chosen P true new old f g = f
 chosen P false new old f g = g refl
+
+pub taken : (moves : Bool) (new old : ℕ) → moves ≡ true → cond moves new old ≡ new
+taken moves new old e = rw e
 
 pub planned : (v : View) (rs : List Row) → Planned v rs (planOf v rs)
 unfolding planOf
@@ -174,18 +178,18 @@ planned v rs =
 pub positions : (p : Plan) → (dataEnd p ≤ namesDone p) × (namesDone p ≤ finalPosition p)
 positions p = (more (p .namesMove) (dataEnd p) (64 * p .segments), more (p .indexMoves) (namesDone p) (32 * p .slots))
   where
-    more : (moves : Bool) (a n : ℕ) → a ≤ cond moves (a + n) a
-    more moves a n = chosen (λ k. a ≤ k) moves (a + n) a (omega arith) (λ e. omega arith)
+    more : (moves : Bool) (a n : ℕ) → a ≤ cond moves (aligned a + n) a
+    more moves a n = chosen (λ k. a ≤ k) moves (aligned a + n) a (omega arith) (λ e. omega arith)
 
 module _ (v : View) (rs : List Row) (p : Plan) (h : Planned v rs p) where
-  pub body-even : length (p .body) % 8 ≡ 0
+  pub body-even : Each (λ b. length b % 8 ≡ 0) (p .body)
   body-even = rw (h .body) (bodies-even rs)
 
   pub positions-even : (dataEnd p % 8 ≡ 0) × (namesDone p % 8 ≡ 0) × (finalPosition p % 8 ≡ 0)
   positions-even =
-      let stored : dataEnd p % 8 ≡ 0 = omega (arith, h .room .even, body-even) in
-      let names : namesDone p % 8 ≡ 0 = chosen (λ k. k % 8 ≡ 0) (p .namesMove) (dataEnd p + 64 * p .segments) (dataEnd p) (omega arith) (λ e. stored) in
-      (stored, names, chosen (λ k. k % 8 ≡ 0) (p .indexMoves) (namesDone p + 32 * p .slots) (namesDone p) (omega arith) (λ e. names))
+      let stored : dataEnd p % 8 ≡ 0 = end-even (p .body) (p .start) (h .room .even) body-even in
+      let names : namesDone p % 8 ≡ 0 = chosen (λ k. k % 8 ≡ 0) (p .namesMove) (namesStart p + 64 * p .segments) (dataEnd p) (omega arith) (λ e. stored) in
+      (stored, names, chosen (λ k. k % 8 ≡ 0) (p .indexMoves) (indexStart p + 32 * p .slots) (namesDone p) (omega arith) (λ e. names))
 
   pub entries-count : length (p .entries) ≡ length rs
   entries-count = rw (h .entries) (sorted-length _ ∙ new-length rs (p .start) (framesOf (v .entries)) (namesAfter v p))

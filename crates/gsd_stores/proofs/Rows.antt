@@ -3,24 +3,24 @@ use Prim.Native.Nat.{ℕ, zero, suc, _+_, _-_, _%_, _≤_, _<_}
 use mathlib.Core.Path.{_≡_, refl, sym, _∙_, ap}
 use mathlib.Core.Logic.{inl, inr}
 use mathlib.Core.List.{List, [], _∷_, _++_}
-use native.Mathlib.Nat.{zero-add}
 use native.Mathlib.Decide.{decLt}
 use native.Mathlib.Omega.{arith}
-use lib.ListN.{length, getD, take, length-append, length-replicate, List·getD-append}
-use lib.Seq.{take-suc, take-length, getD-append-add}
+use lib.ListN.{length, getD, take, length-append, length-replicate}
+use lib.Seq.{take-suc, take-length}
 use borrow.Author.Tests.{lt-ltb, le-ltb}
 use Rattle.gsd_format.specs.declared.Entry.{Entry}
-use Rattle.gsd_format.specs.Bytes.{part, zeros, roundUp}
+use Rattle.gsd_format.specs.Bytes.{zeros, roundUp}
 use Rattle.gsd_format.specs.Names.{indexOf, Has, Lacks, Distinct}
 use Rattle.gsd_format.specs.Lookup.{none}
 use Rattle.gsd_format.proofs.Lists.{Each, Any, each-at, at-each, at-any, map-each}
 use Rattle.gsd_format.proofs.Bytes.{Text}
-use Rattle.gsd_format.proofs.Texts.{text-part}
 use Rattle.gsd_format.proofs.Ids.{index-here, index-on, index-inj, index-behind, distinct-append}
 use Rattle.gsd_format.proofs.Ids.{has-any, any-has, has-front, has-back, lacks-each, each-lacks}
 use Rattle.gsd_stores.specs.Sheet.{Row, rowNames}
-use Rattle.gsd_stores.specs.Plan.{padded, bodies, bodyOffset, newNames, newEntries}
+use Rattle.gsd_stores.specs.View.{aligned}
+use Rattle.gsd_stores.specs.Plan.{padded, bodies, endFrom, bodyPlace, newNames, newEntries}
 use Rattle.gsd_stores.specs.Demand3.{noRow}
+use Rattle.gsd_stores.proofs.Texts.{Stand, end-more}
 use Rattle.gsd_stores.proofs.Sorted.{Differing}
 
 -- The data
@@ -39,58 +39,49 @@ zeros-behind (c ∷ b) n (suc k) = zeros-behind b n k
 pub padded-byte : (b : List ℕ) (k : ℕ) → getD (padded b) k 0 ≡ getD b k 0
 padded-byte b k = zeros-behind b (roundUp 8 (length b) - length b) k
 
-pub bodies-length : (r : Row) (rs : List Row) → length (bodies (r ∷ rs)) ≡ roundUp 8 (length (r .body)) + length (bodies rs)
+pub place-first : (pos : ℕ) (rs : List Row) → endFrom pos (bodies (take 0 rs)) ≡ pos
+unfolding bodies endFrom
+place-first pos rs = refl
+
+-- the position behind row i
+pub place-next : (rs : List Row) (pos i : ℕ) → i < length rs →
+    endFrom pos (bodies (take (suc i) rs)) ≡ bodyPlace pos rs i + roundUp 8 (length (getD rs i noRow .body))
+unfolding bodies endFrom
+place-next [] pos i l = absurd (omega arith)
+place-next (r ∷ rs) pos zero l = ap (λ n. aligned pos + n) (padded-length (r .body))
+place-next (r ∷ rs) pos (suc i) l = place-next rs (aligned pos + length (padded (r .body))) i (omega arith)
+
+pub place-last : (pos : ℕ) (rs : List Row) → endFrom pos (bodies (take (length rs) rs)) ≡ endFrom pos (bodies rs)
+place-last pos rs = ap (λ l. endFrom pos (bodies l)) (take-length rs)
+
+pub place-low : (pos : ℕ) (rs : List Row) (i : ℕ) → pos ≤ bodyPlace pos rs i
+place-low pos rs i = omega (arith, end-more (bodies (take i rs)) pos)
+
+pub place-inside : (rs : List Row) (pos i : ℕ) → i < length rs →
+    bodyPlace pos rs i + roundUp 8 (length (getD rs i noRow .body)) ≤ endFrom pos (bodies rs)
+unfolding bodies endFrom
+place-inside [] pos i l = absurd (omega arith)
+place-inside (r ∷ rs) pos zero l = omega (arith, end-more (bodies rs) (aligned pos + length (padded (r .body))), padded-length (r .body))
+place-inside (r ∷ rs) pos (suc i) l = place-inside rs (aligned pos + length (padded (r .body))) i (omega arith)
+
+-- whole words
+pub bodies-even : (rs : List Row) → Each (λ b. length b % 8 ≡ 0) (bodies rs)
 unfolding bodies
-bodies-length r rs = omega (arith, length-append (padded (r .body)) (bodies rs), padded-length (r .body))
+bodies-even [] = tt
+bodies-even (r ∷ rs) = (omega (arith, padded-length (r .body)), bodies-even rs)
 
-pub bodies-even : (rs : List Row) → length (bodies rs) % 8 ≡ 0
-unfolding bodies
-bodies-even [] = refl
-bodies-even (r ∷ rs) = omega (arith, bodies-length r rs, bodies-even rs)
-
-pub offset-first : (rs : List Row) → bodyOffset rs 0 ≡ 0
-unfolding bodies
-offset-first rs = refl
-
-pub offset-next : (rs : List Row) (i : ℕ) → i < length rs → bodyOffset rs (suc i) ≡ bodyOffset rs i + roundUp 8 (length (getD rs i noRow .body))
-offset-next [] i l = absurd (omega arith)
-offset-next (r ∷ rs) zero l = omega (arith, bodies-length r [], offset-first rs)
-offset-next (r ∷ rs) (suc i) l = omega (arith, bodies-length r (take i rs), bodies-length r (take (suc i) rs), offset-next rs i (omega arith))
-
-pub offset-last : (rs : List Row) → bodyOffset rs (length rs) ≡ length (bodies rs)
-offset-last rs = ap (λ l. length (bodies l)) (take-length rs)
-
-pub offset-even : (rs : List Row) (i : ℕ) → bodyOffset rs i % 8 ≡ 0
-offset-even rs i = bodies-even (take i rs)
-
-pub offset-inside : (rs : List Row) (i : ℕ) → i < length rs → bodyOffset rs i + roundUp 8 (length (getD rs i noRow .body)) ≤ length (bodies rs)
-offset-inside [] i l = absurd (omega arith)
-offset-inside (r ∷ rs) zero l = omega (arith, bodies-length r rs, offset-first rs)
-offset-inside (r ∷ rs) (suc i) l = omega (arith, bodies-length r (take i rs), bodies-length r rs, offset-inside rs i (omega arith))
-
--- the i-th row's data and their padding stand there
-pub bodies-text : (rs : List Row) (i : ℕ) → i < length rs → Text (bodies rs) (bodyOffset rs i) (padded (getD rs i noRow .body))
-unfolding bodies
-bodies-text [] i l k m = absurd (omega arith)
-bodies-text (r ∷ rs) zero l k m = ap (λ j. getD (bodies (r ∷ rs)) j 0) (zero-add k) ∙ List·getD-append (padded (r .body)) (bodies rs) 0 k m
-bodies-text (r ∷ rs) (suc i) l k m =
-    let first : List ℕ = padded (r .body) in
-    let place : bodyOffset (r ∷ rs) (suc i) + k ≡ length first + (bodyOffset rs i + k) = omega (arith, length-append first (bodies (take i rs))) in
-    ap (λ j. getD (bodies (r ∷ rs)) j 0) place ∙ getD-append-add first (bodies rs) (bodyOffset rs i + k) 0 ∙ bodies-text rs i (omega arith) k m
-
-pub bodies-part : (rs : List Row) (i : ℕ) → i < length rs →
-    part (bodies rs) (bodyOffset rs i) (length (padded (getD rs i noRow .body))) ≡ padded (getD rs i noRow .body)
-bodies-part rs i l =
-    let b : List ℕ = getD rs i noRow .body in
-    text-part (bodies rs) (bodyOffset rs i) (padded b) (omega (arith, padded-length b, offset-inside rs i l)) (bodies-text rs i l)
+pub end-even : (bs : List (List ℕ)) (pos : ℕ) → pos % 8 ≡ 0 → Each (λ b. length b % 8 ≡ 0) bs → endFrom pos bs % 8 ≡ 0
+unfolding endFrom
+end-even [] pos h e = h
+end-even (b ∷ bs) pos h e = end-even bs (aligned pos + length b) (omega (arith, e .0)) (e .1)
 
 -- where all data stand, the i-th row's data stand
-pub body-text : (rs : List Row) (x : List ℕ) (at : ℕ) → Text x at (bodies rs) → (i : ℕ) → i < length rs → Text x (at + bodyOffset rs i) (getD rs i noRow .body)
-body-text rs x at h i l k m =
-    let b : List ℕ = getD rs i noRow .body in
-    let n : k < length (padded b) = omega (arith, padded-length b) in
-    ap (λ j. getD x j 0) (let e : at + bodyOffset rs i + k ≡ at + (bodyOffset rs i + k) = omega arith in e)
-    ∙ h (bodyOffset rs i + k) (omega (arith, padded-length b, offset-inside rs i l)) ∙ bodies-text rs i l k n ∙ padded-byte b k
+pub body-text : (rs : List Row) (x : List ℕ) (pos : ℕ) → Stand x pos (bodies rs) → (i : ℕ) → i < length rs →
+    Text x (bodyPlace pos rs i) (getD rs i noRow .body)
+unfolding bodies endFrom Stand
+body-text [] x pos h i l = absurd (omega arith)
+body-text (r ∷ rs) x pos h zero l = λ k m. h .0 k (omega (arith, padded-length (r .body))) ∙ padded-byte (r .body) k
+body-text (r ∷ rs) x pos h (suc i) l = body-text rs x (aligned pos + length (padded (r .body))) (h .1) i (omega arith)
 
 -- The new names
 
@@ -211,16 +202,14 @@ newEntry pos frame names r = record { frame = frame; n = r .n; location = pos; m
 pub new-length : (rs : List Row) (pos frame : ℕ) (names : List (List ℕ)) → length (newEntries pos frame names rs) ≡ length rs
 unfolding newEntries
 new-length [] pos frame names = refl
-new-length (r ∷ rs) pos frame names = ap suc (new-length rs (pos + length (padded (r .body))) frame names)
+new-length (r ∷ rs) pos frame names = ap suc (new-length rs (aligned pos + length (padded (r .body))) frame names)
 
 pub new-at : (rs : List Row) (pos frame : ℕ) (names : List (List ℕ)) (i : ℕ) → i < length rs →
-    getD (newEntries pos frame names rs) i none ≡ newEntry (pos + bodyOffset rs i) frame names (getD rs i noRow)
-unfolding newEntries
+    getD (newEntries pos frame names rs) i none ≡ newEntry (bodyPlace pos rs i) frame names (getD rs i noRow)
+unfolding newEntries bodies endFrom
 new-at [] pos frame names i l = absurd (omega arith)
-new-at (r ∷ rs) pos frame names zero l = ap (λ p. newEntry p frame names r) (omega (arith, offset-first (r ∷ rs)))
-new-at (r ∷ rs) pos frame names (suc i) l =
-    new-at rs (pos + length (padded (r .body))) frame names i (omega arith)
-    ∙ ap (λ p. newEntry p frame names (getD rs i noRow)) (omega (arith, bodies-length r (take i rs), padded-length (r .body)))
+new-at (r ∷ rs) pos frame names zero l = refl
+new-at (r ∷ rs) pos frame names (suc i) l = new-at rs (aligned pos + length (padded (r .body))) frame names i (omega arith)
 
 -- rows of different names have entries of different ids
 pub new-differing : (rs : List Row) (pos frame : ℕ) (all : List (List ℕ)) → ((i : ℕ) → i < length rs → Has (getD rs i noRow .name) all) → Distinct (rowNames rs) →
@@ -233,7 +222,7 @@ new-differing (r ∷ rs) pos frame all h d = (
 )
   where
     next : ℕ
-    next = pos + length (padded (r .body))
+    next = aligned pos + length (padded (r .body))
 
     other : (i : ℕ) → i < length rs → indexOf (r .name) all ≡ getD (newEntries next frame all rs) i none .id → ⊥
     other i l e =

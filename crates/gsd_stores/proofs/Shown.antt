@@ -103,8 +103,14 @@ module _ (a b : List ℕ) (u w : View) (more : List Entry) (ms : List (List ℕ)
   pub extends-keep : Keep a b
   extends-keep = record {
     grow = omega (arith, frames-a, frames-b, h .frames);
-    kept = λ f n e g. look-b f n ∙ look-kept (u .entries) more (u .names) (u .names ++ ms) f n e (h .frames) (omega (arith, length-append (u .names) ms)) (index-append n (u .names) ms) (sym (look-a f n) ∙ g);
-    back = λ f n e l g. look-a f n ∙ look-back (u .entries) more (u .names) (u .names ++ ms) f n e (omega (arith, frames-a)) (λ i k. h .from .sound i k .named) (h .newer) (index-back n (u .names) ms) (sym (look-b f n) ∙ g);
+    kept = λ f n e g.
+        look-b f n
+        ∙ look-kept (u .entries) more (u .names) (u .names ++ ms) f n e (h .frames) (omega (arith, length-append (u .names) ms))
+        (index-append n (u .names) ms) (sym (look-a f n) ∙ g);
+    back = λ f n e l g.
+        look-a f n
+        ∙ look-back (u .entries) more (u .names) (u .names ++ ms) f n e (omega (arith, frames-a)) (λ i k. h .from .sound i k .named) (h .newer)
+        (index-back n (u .names) ms) (sym (look-b f n) ∙ g);
     chunk = λ f n e g.
         let s : Stands (u .entries) f (indexOf n (u .names)) e = find-sound f (indexOf n (u .names)) (u .entries) e (look-found (u .entries) (u .names) f n e .0 (sym (look-a f n) ∙ g) .2) in
         chunk-kept e (s .place) (s .within) (s .there);

@@ -1,4 +1,4 @@
--- Laws of stores and of runs of words: what stands at each place after them, and where they lie.
+-- Laws of stores and of extents of words: what stands at each place after them, and where they lie.
 use Prim.Native.Nat.{ℕ, zero, suc, _+_, _*_, _-_, _/_, _%_, _≤_, _<_}
 use mathlib.Core.Path.{_≡_, refl, sym, _∙_, ap}
 use mathlib.Core.Logic.{_⊎_, inl, inr}
@@ -252,7 +252,7 @@ between lo hi p = go (decLt p lo) (decLt p hi)
     go (no a) (yes b) = inl (omega arith, b)
     go (no a) (no b) = inr (λ c d. omega arith)
 
--- a run changes nothing outside
+-- an extent changes nothing outside
 pub over-off : {img t : List ℕ} {base lo hi : ℕ} {x : List ℕ} → Over img t base lo hi x → (p : ℕ) → (lo ≤ p → p < hi → ⊥) → getD x p 0 ≡ getD img p 0
 over-off {lo} {hi} o p h = elim (decLt p lo) [
   | yes a ↦ o .below p a
@@ -330,7 +330,7 @@ words-on img t base n p (b ∷ l) m e (here q) x y =
 words-on img t base n p (b ∷ l) m e (there o) x y =
     words-on (stored img b (eightOf t (b - base))) t base n p l (omega (arith, stored-length img b (eightOf t (b - base)))) (e .1) o x y
 
--- Runs: a whole stretch of words, in any order
+-- Extents: a whole stretch of words, in any order
 module _ {lo n : ℕ} {l : List ℕ} (f : Fills lo n l) where
   pub fills-within : (base len : ℕ) → base ≤ lo → lo + 8 * n ≤ len → Within base len l
   fills-within base len b h = fills-each (λ a. (base ≤ a) × (a + 8 ≤ len)) f (λ k m. (omega arith, omega arith))

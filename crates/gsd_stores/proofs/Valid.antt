@@ -19,19 +19,20 @@ use Rattle.gsd_format.specs.Opening.{verdict, mostNames, Blocks}
 use Rattle.gsd_format.specs.Lookup.{none, chunkOf}
 use Rattle.gsd_format.proofs.Lists.{Each, each-at, at-each, each-append}
 use Rattle.gsd_format.proofs.Refusals.{both, unmet, neither, not-less}
-use Rattle.gsd_format.proofs.Bytes.{Octets, Text}
+use Rattle.gsd_format.proofs.Bytes.{Octets}
 use Rattle.gsd_format.proofs.Texts.{text-part}
 use Rattle.gsd_format.proofs.Names.{Named, names-pass}
 use Rattle.gsd_format.proofs.Entries.{Fits, Ordered, ShortIds, entries-is, frames-none, frames-more, frames-grown, frames-last, ordered-append}
 use Rattle.gsd_format.proofs.Verdict.{Sound, AllSound, Opens, verdict-zero, sound-ids}
 use Rattle.gsd_stores.specs.Sheet.{Row, rowsOf, rowNames, mostRows}
-use Rattle.gsd_stores.specs.View.{View, viewOf}
-use Rattle.gsd_stores.specs.Plan.{Plan, newNames, planOf, dataEnd, namesDone, finalPosition, bodyOffset}
+use Rattle.gsd_stores.specs.View.{View, viewOf, aligned}
+use Rattle.gsd_stores.specs.Plan.{Plan, newNames, endFrom, bodyPlace, planOf, dataEnd, namesStart, namesDone, indexStart, finalPosition}
 use Rattle.gsd_stores.specs.Append.{imageTest, planTest, appendTest}
 use Rattle.gsd_stores.specs.Demand3.{noRow}
 use Rattle.gsd_stores.proofs.Sheet.{Accepted, RowsOk, accepted, rows-count, rows-ok}
 use Rattle.gsd_stores.proofs.Sorted.{Rising, sorted-rising, rising-ordered}
-use Rattle.gsd_stores.proofs.Rows.{body-text, offset-even, offset-inside, new-names, new-each, all-has, all-distinct, new-differing}
+use Rattle.gsd_stores.proofs.Texts.{Stand, end-more}
+use Rattle.gsd_stores.proofs.Rows.{body-text, place-low, place-inside, new-names, new-each, all-has, all-distinct, new-differing}
 use Rattle.gsd_stores.proofs.Plan.{layoutAfter, entriesAfter, namesAfter, rowEntries, rowEntry, Planned, chosen, planned, positions}
 use Rattle.gsd_stores.proofs.Plan.{body-even, entries-count, entry-row}
 
@@ -91,10 +92,10 @@ module _ (v : View) (rs : List Row) (p : Plan) (plan : Planned v rs p) (ok : Row
   row-sound : (i : ℕ) → i < length rs → NewSound v p (rowEntry v rs p i)
   row-sound i l = record {
     frame = refl;
-    low = omega (arith, plan .room .header);
-    behind = omega arith;
-    even = omega (arith, plan .room .even, offset-even rs i);
-    high = omega (arith, ok i l .size, offset-inside rs i l, ap length (plan .body));
+    low = omega (arith, plan .room .header, place-low (p .start) rs i);
+    behind = place-low (p .start) rs i;
+    even = omega arith;
+    high = omega (arith, ok i l .size, place-inside rs (p .start) i l, ap (endFrom (p .start)) (plan .body));
     known = ok i l .known;
     id = rw (plan .fresh) (all-has (v .names) rs i l);
     flags = refl;
@@ -115,12 +116,13 @@ module _ (v : View) (rs : List Row) (p : Plan) (plan : Planned v rs p) (ok : Row
   new-sound j m = let (i, r) = entry-row v rs p plan j m in rw (r .is) (row-sound i (r .row))
 
   -- where the data stand, the chunk of a row's entry is the row's data
-  pub row-chunk : (i : ℕ) → i < length rs → (y : List ℕ) → dataEnd p ≤ length y → Text y (p .start) (p .body) → chunkOf y (rowEntry v rs p i) ≡ getD rs i noRow .body
+  pub row-chunk : (i : ℕ) → i < length rs → (y : List ℕ) → dataEnd p ≤ length y → Stand y (p .start) (p .body) →
+      chunkOf y (rowEntry v rs p i) ≡ getD rs i noRow .body
   row-chunk i l y f h =
       let b : List ℕ = getD rs i noRow .body in
       let size : length b ≡ chunkSize (rowEntry v rs p i) = ok i l .size in
-      ap (part y (p .start + bodyOffset rs i)) (sym size)
-      ∙ text-part y (p .start + bodyOffset rs i) b (omega (arith, row-sound i l .high)) (body-text rs y (p .start) (rw (plan .body) at h) i l)
+      ap (part y (bodyPlace (p .start) rs i)) (sym size)
+      ∙ text-part y (bodyPlace (p .start) rs i) b (omega (arith, row-sound i l .high)) (body-text rs y (p .start) (rw (plan .body) at h) i l)
 
   pub new-fits : framesOf (v .entries) < 2 ^ 64 → dataEnd p < 2 ^ 64 → length (namesAfter v p) ≤ 65536 →
       (j : ℕ) → j < length (p .entries) → Fits (getD (p .entries) j none)
@@ -147,15 +149,15 @@ apart-block : (moves : Bool) (unit new many old few a n : ℕ) → Apart a n old
 apart-block true unit new many old few a n f g p i j k l = omega arith
 apart-block false unit new many old few a n f g p i j k l = f p i j k l
 
-block-high : (moves : Bool) (unit new many old few len : ℕ) → cond moves (new + unit * many) new ≤ len → old + unit * few ≤ len →
+block-high : (moves : Bool) (unit new many old few len pos : ℕ) → cond moves (new + unit * many) pos ≤ len → old + unit * few ≤ len →
     cond moves new old + unit * cond moves many few ≤ len
-block-high true unit new many old few len f g = f
-block-high false unit new many old few len f g = g
+block-high true unit new many old few len pos f g = f
+block-high false unit new many old few len pos f g = g
 
 -- the index block moves behind the data and the name block, the name block behind the data
 blocks-apart : (i n : Bool) (index slots more names segments most start end : ℕ) → index + 32 * slots ≤ start → names + 64 * segments ≤ start → start ≤ end →
     Apart index (32 * slots) names (64 * segments) →
-    Apart (cond i (cond n (end + 64 * most) end) index) (32 * cond i more slots) (cond n end names) (64 * cond n most segments)
+    Apart (cond i (aligned (cond n (aligned end + 64 * most) end)) index) (32 * cond i more slots) (cond n (aligned end) names) (64 * cond n most segments)
 blocks-apart true true index slots more names segments most start end f g h a p b c d e = omega arith
 blocks-apart true false index slots more names segments most start end f g h a p b c d e = omega arith
 blocks-apart false true index slots more names segments most start end f g h a p b c d e = omega arith
@@ -165,13 +167,15 @@ module _ (v : View) (rs : List Row) (p : Plan) (plan : Planned v rs p) (fits : f
   pub blocks-after : Blocks (v .layout) → Blocks (layoutAfter v p)
   blocks-after b =
       let l : Layout = v .layout in
+      let low : 256 ≤ dataEnd p = omega (arith, plan .room .header, end-more (p .body) (p .start)) in
       record {
-        indexLow = chosen (λ k. 256 ≤ k) (p .indexMoves) (namesDone p) (l .index) (omega (arith, positions p, plan .room .header)) (λ e. b .indexLow);
-        indexHigh = block-high (p .indexMoves) 32 (namesDone p) (p .slots) (l .index) (l .slots) (l .len) fits (b .indexHigh);
-        namelistLow = chosen (λ k. 256 ≤ k) (p .namesMove) (dataEnd p) (l .namelist) (omega (arith, plan .room .header)) (λ e. b .namelistLow);
-        namelistHigh = block-high (p .namesMove) 64 (dataEnd p) (p .segments) (l .namelist) (l .segments) (l .len) (omega (arith, positions p)) (b .namelistHigh);
+        indexLow = chosen (λ k. 256 ≤ k) (p .indexMoves) (indexStart p) (l .index) (omega (arith, positions p, low)) (λ e. b .indexLow);
+        indexHigh = block-high (p .indexMoves) 32 (indexStart p) (p .slots) (l .index) (l .slots) (l .len) (namesDone p) fits (b .indexHigh);
+        namelistLow = chosen (λ k. 256 ≤ k) (p .namesMove) (namesStart p) (l .namelist) (omega (arith, low)) (λ e. b .namelistLow);
+        namelistHigh = block-high (p .namesMove) 64 (namesStart p) (p .segments) (l .namelist) (l .segments) (l .len) (dataEnd p)
+            (omega (arith, positions p)) (b .namelistHigh);
         apart = blocks-apart (p .indexMoves) (p .namesMove) (l .index) (l .slots) (p .slots) (l .namelist) (l .segments) (p .segments) (p .start) (dataEnd p)
-            (plan .room .index) (plan .room .names) (omega arith) (b .apart);
+            (plan .room .index) (plan .room .names) (end-more (p .body) (p .start)) (b .apart);
       }
 
   -- an entry whose chunk ends with the data or before, apart from the blocks, is sound with the blocks as they then lie
@@ -186,15 +190,16 @@ module _ (v : View) (rs : List Row) (p : Plan) (plan : Planned v rs p) (fits : f
         typed = known;
         named = id;
         within = omega (arith, positions p);
-        offIndex = apart-block (p .indexMoves) 32 (namesDone p) (p .slots) (l .index) (l .slots) (e .location) (chunkSize e) offIndex (omega (arith, positions p));
-        offNames = apart-block (p .namesMove) 64 (dataEnd p) (p .segments) (l .namelist) (l .segments) (e .location) (chunkSize e) offNames high;
+        offIndex = apart-block (p .indexMoves) 32 (indexStart p) (p .slots) (l .index) (l .slots) (e .location) (chunkSize e) offIndex
+            (omega (arith, positions p));
+        offNames = apart-block (p .namesMove) 64 (namesStart p) (p .segments) (l .namelist) (l .segments) (e .location) (chunkSize e) offNames (omega arith);
       }
 
   pub old-after : AllSound (v .layout) (length (v .names)) (v .entries) → AllSound (layoutAfter v p) (length (namesAfter v p)) (v .entries)
   old-after all i l =
       let s : Sound (v .layout) (length (v .names)) (getD (v .entries) i none) = all i l in
       sound-after (length (namesAfter v p)) (getD (v .entries) i none) (s .low) (s .typed) (omega (arith, length-append (v .names) (p .fresh)))
-      (omega (arith, plan .room .chunks i l)) (s .offIndex) (s .offNames)
+      (omega (arith, plan .room .chunks i l, end-more (p .body) (p .start))) (s .offIndex) (s .offNames)
 
   pub new-after : RowsOk rs → AllSound (layoutAfter v p) (length (namesAfter v p)) (p .entries)
   new-after ok j l =
@@ -208,7 +213,7 @@ pub record Ready (v : View) (rs : List Row) (p : Plan) : Type 0 where
   pub plan : Planned v rs p
   pub evenIndex : v .layout .index % 8 ≡ 0
   pub evenNames : v .layout .namelist % 8 ≡ 0
-  pub evenBody : length (p .body) % 8 ≡ 0
+  pub evenBody : Each (λ b. length b % 8 ≡ 0) (p .body)
   pub fits : finalPosition p ≤ v .layout .len
   pub small : v .layout .len ≤ greatestLength
   -- names: the new ones are names, and no two of all are equal

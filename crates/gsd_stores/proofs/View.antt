@@ -15,7 +15,7 @@ use Rattle.gsd_format.specs.Header.{headerSize, layoutOf}
 use Rattle.gsd_format.specs.Names.{flat, nameParts, namesOf, namesAt}
 use Rattle.gsd_format.specs.Entries.{entriesAt, entriesOf}
 use Rattle.gsd_format.specs.Lookup.{none}
-use Rattle.gsd_format.proofs.Bytes.{Same, Text, le-same}
+use Rattle.gsd_format.proofs.Bytes.{Same, le-same}
 use Rattle.gsd_format.proofs.Names.{IsNames, names-is, names-kept}
 use Rattle.gsd_format.proofs.Entries.{IsEntries, is-entries, entries-kept}
 use Rattle.gsd_format.specs.Opening.{Blocks}
@@ -23,6 +23,7 @@ use Rattle.gsd_format.proofs.Verdict.{Front, AllSound, layout-same, front-same}
 use Rattle.gsd_stores.specs.Stores.{words, up}
 use Rattle.gsd_stores.specs.View.{View, viewOf, indexEnd, namelistEnd, entriesEnd, namesEnd}
 use Rattle.gsd_stores.proofs.Stores.{Over, between, over-off}
+use Rattle.gsd_stores.proofs.Texts.{Stand, size, end-more, stand-same}
 use Rattle.gsd_stores.proofs.Phases.{Phase, phase-up}
 
 -- the index block or the name block elsewhere
@@ -160,6 +161,10 @@ room-laid r l ns end a b c f g =
 pub room-named : {v : View} {d m pos : ℕ} (ns : List (List ℕ)) → Room v d m pos → Room (withNames v ns) d m pos
 room-named {v} {pos} ns r = room-laid r (v .layout) ns pos (omega arith) (r .index) (r .names) (r .offIndex) (r .offNames)
 
+-- and further behind
+pub room-more : {v : View} {d m pos : ℕ} (end : ℕ) → pos ≤ end → Room v d m pos → Room v d m end
+room-more {v} end h r = room-laid r (v .layout) (v .names) end h (omega arith) (omega arith) (r .offIndex) (r .offNames)
+
 -- behind all that v shows
 pub free-behind : {v : View} {x : List ℕ} {d m pos : ℕ} → Is x v → Room v d m pos → (p : ℕ) → pos ≤ p → Free v p
 free-behind h r p a = record {
@@ -175,7 +180,7 @@ pub keeps-behind : {v : View} {x y : List ℕ} {d m pos : ℕ} → Is x v → Ro
     ((p : ℕ) → p < pos → getD y p 0 ≡ getD x p 0) → Keeps v x y
 keeps-behind {pos} h r l f = record { long = l; byte = λ p. elim (decLt p pos) [ yes a ↦ inl (f p a) | no a ↦ inr (free-behind h r p (omega arith)) ] }
 
--- a run that writes what stands there already, or at free places
+-- an extent that writes what stands there already, or at free places
 pub keeps-over : {v : View} {x t : List ℕ} {base lo hi : ℕ} {y : List ℕ} → Over x t base lo hi y →
     ((p : ℕ) → lo ≤ p → p < hi → (getD t (p - base) 0 ≡ getD x p 0) ⊎ Free v p) → Keeps v x y
 keeps-over {lo} {hi} o f = record {
@@ -225,23 +230,23 @@ abbrev pub NamesClear : View → List ℕ → Type 0
 NamesClear v x = (p : ℕ) → namesEnd v ≤ p → p < namelistEnd (v .layout) → getD x p 0 ≡ 0
 
 -- both blocks are cleared and the data t stand from d on
-pub record Stage (x₀ : List ℕ) (v : View) (d : ℕ) (t : List ℕ) (x : List ℕ) : Type 0 where
+pub record Stage (x₀ : List ℕ) (v : View) (d : ℕ) (t : List (List ℕ)) (x : List ℕ) : Type 0 where
   pub base : Base x₀ v x
   pub index : IndexClear v x
   pub names : NamesClear v x
-  pub body : Text x d t
+  pub body : Stand x d t
 
 -- what is written behind all of it changes nothing of it
-pub stage-behind : {x₀ : List ℕ} {v : View} {d : ℕ} {t : List ℕ} {pos : ℕ} {x y : List ℕ} → Room v d (length t) pos → length y ≡ length x →
+pub stage-behind : {x₀ : List ℕ} {v : View} {d : ℕ} {t : List (List ℕ)} {pos : ℕ} {x y : List ℕ} → Room v d (size d t) pos → length y ≡ length x →
     ((p : ℕ) → p < pos → getD y p 0 ≡ getD x p 0) → Stage x₀ v d t x → Stage x₀ v d t y
 stage-behind {x₀} {v} {d} {t} {pos} {x} {y} r l f s = record {
   base = base-kept (keeps-behind (s .base .is) r l f) (s .base);
   index = λ p a b. f p (omega arith) ∙ s .index p a b;
   names = λ p a b. f p (omega arith) ∙ s .names p a b;
-  body = λ k m. f (d + k) (omega arith) ∙ s .body k m;
+  body = stand-same t d x y (λ p l m. f p (omega (arith, end-more t d))) (s .body);
 }
 
--- a run upwards that changes nothing visible: every moment of it shows v, the end too
+-- an extent upwards that changes nothing visible: every moment of it shows v, the end too
 module _ {x₀ : List ℕ} {W : List ℕ → List ℕ → Type 0} {v : View} (same : Passes x₀ W v v) where
   pub phase-quiet : {P Q : List ℕ → Type 0} (t : List ℕ) (base lo n : ℕ) → base ≤ lo → ((x : List ℕ) → P x → Base x₀ v x) → ((x : List ℕ) → Q x → Base x₀ v x) →
       ((x : List ℕ) → P x → lo + 8 * n ≤ v .layout .len) →

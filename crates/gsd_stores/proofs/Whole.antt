@@ -1,6 +1,6 @@
 -- The whole append: from an image that shows v, by a good plan, every moment before the last store shows v with some of the new names,
 -- no fewer than the moment before, its blocks where they were or moved; after the last store all new entries are listed.
-use Prim.Native.Nat.{ℕ, _+_, _*_, _%_, _≤_}
+use Prim.Native.Nat.{ℕ, _+_, _*_, _-_, _%_, _≤_}
 use mathlib.Core.Path.{_≡_, refl, sym, ap}
 use mathlib.Core.Bool.{Bool, true, false, cond}
 use mathlib.Core.List.{List, _++_, append-nil}
@@ -8,11 +8,13 @@ use native.Mathlib.Omega.{arith}
 use lib.ListN.{length, take}
 use lib.Seq.{take-length}
 use Rattle.gsd_format.specs.declared.Layout.{Layout}
-use Rattle.gsd_stores.specs.View.{View}
-use Rattle.gsd_stores.specs.Plan.{Plan, dataEnd, namesDone, finalPosition}
+use Rattle.gsd_stores.specs.View.{View, aligned}
+use Rattle.gsd_stores.specs.Plan.{Plan, dataEnd, namesStart, namesDone, indexStart, finalPosition}
 use Rattle.gsd_stores.specs.Steps.{moveNames, moveIndex, nameBlock, stepsOf}
 use Rattle.gsd_stores.proofs.Phases.{Phase, _⨾_}
-use Rattle.gsd_stores.proofs.View.{withLayout, withNames, Is, is-long, Room, room-named, Base, Passes, Quiet}
+use Rattle.gsd_stores.proofs.Texts.{size, end-more}
+use Rattle.gsd_stores.proofs.Plan.{taken}
+use Rattle.gsd_stores.proofs.View.{withLayout, withNames, Is, is-long, Room, room-named, room-more, Base, Passes, Quiet}
 use Rattle.gsd_stores.proofs.Blocks.{theIndex, theNames}
 use Rattle.gsd_stores.proofs.Good.{roomy, named, ready, Good}
 use Rattle.gsd_stores.proofs.Clear.{clear-index, clear-names, store-data}
@@ -21,8 +23,8 @@ use Rattle.gsd_stores.proofs.NewNames.{all-names}
 use Rattle.gsd_stores.proofs.NewEntries.{Final, store-entries}
 
 -- room behind the data
-pub room-data : {v : View} {d : ℕ} (m : ℕ) → Room v d 0 d → Room v d m (d + m)
-room-data m r = record {
+pub room-data : {v : View} {d : ℕ} (e : ℕ) → d ≤ e → Room v d 0 d → Room v d (e - d) e
+room-data e h r = record {
   low = r .low;
   index = omega arith;
   names = omega arith;
@@ -32,7 +34,7 @@ room-data m r = record {
   offNames = λ p a b c e. omega arith;
 }
 
-cond-more : (move : Bool) (a n : ℕ) → a ≤ cond move (a + n) a
+cond-more : (move : Bool) (a n : ℕ) → a ≤ cond move (aligned a + n) a
 cond-more false a n = omega arith
 cond-more true a n = omega arith
 
@@ -64,20 +66,20 @@ module _ {v : View} {p : Plan} (g : Good v p) where
   pub data-fits : dataEnd p ≤ v .layout .len
   data-fits = omega (arith, cond-more (p .namesMove) (dataEnd p) (64 * p .segments), names-fit)
 
-  pub room-before : Room v (p .start) (length (p .body)) (dataEnd p)
-  room-before = room-data (length (p .body)) (g .room)
+  pub room-before : Room v (p .start) (size (p .start) (p .body)) (dataEnd p)
+  room-before = room-data (dataEnd p) (end-more (p .body) (p .start)) (g .room)
 
-  pub room-roomy : Room (roomy v p) (p .start) (length (p .body)) (namesDone p)
-  room-roomy = room-step theNames (p .namesMove) (dataEnd p) (p .segments) room-before
+  pub room-roomy : Room (roomy v p) (p .start) (size (p .start) (p .body)) (namesDone p)
+  room-roomy = room-step theNames (p .namesMove) (dataEnd p) (namesStart p) (p .segments) (omega arith) room-before
 
-  pub room-names : Room (named v p) (p .start) (length (p .body)) (namesDone p)
+  pub room-names : Room (named v p) (p .start) (size (p .start) (p .body)) (namesDone p)
   room-names = room-named (v .names ++ p .fresh) room-roomy
 
-  room-ready : Room (ready v p) (p .start) (length (p .body)) (finalPosition p)
-  room-ready = room-step theIndex (p .indexMoves) (namesDone p) (p .slots) room-names
+  room-ready : Room (ready v p) (p .start) (size (p .start) (p .body)) (finalPosition p)
+  room-ready = room-step theIndex (p .indexMoves) (namesDone p) (indexStart p) (p .slots) (omega arith) room-names
 
   pub block-even : nameBlock v p % 8 ≡ 0
-  block-even = cond-even (p .namesMove) (dataEnd p) (v .layout .namelist) (omega arith) (g .namelistEven)
+  block-even = cond-even (p .namesMove) (namesStart p) (v .layout .namelist) (omega arith) (g .namelistEven)
 
   pub whole-append : {x₀ : List ℕ} {W : List ℕ → List ℕ → Type 0} → Is x₀ v → AllPass x₀ W v p →
       ((a b : List ℕ) → Base x₀ (ready v p) a → Final x₀ (ready v p) (p .entries) (p .start) (p .body) b → W a b) →
@@ -87,12 +89,14 @@ module _ {v : View} {p : Plan} (g : Good v p) where
       clear-index (before (v .layout) (v .layout) refl refl)
       ⨾ clear-names (before (v .layout) (v .layout) refl refl) (p .start) (g .namelistEven)
       ⨾ store-data (before (v .layout) (v .layout) refl refl) p (g .room) (g .bodyEven) data-fits
-      ⨾ names-step (p .namesMove) (dataEnd p) (p .segments) room-before (g .moreSegments) names-fit before
+      ⨾ names-step (p .namesMove) (namesStart p) (p .segments) (room-more (namesStart p) (omega arith) room-before) (g .moreSegments)
+      (λ m. omega (arith, taken (p .namesMove) (namesStart p + 64 * p .segments) (dataEnd p) m, names-fit)) before
       ⨾ all-names (roomy v p) (p .fresh) (g .room .low) (room-roomy .offNames) block-even (g .fresh) (g .namesFit)
       (λ ns ms i j l e f. passes (withNames (roomy v p) ns) (withNames (roomy v p) ms) i j l
       (record { len = refl; entries = refl; names = e }) (record { len = refl; entries = refl; names = f }))
-      ⨾ index-step (p .indexMoves) (namesDone p) (p .slots) room-names (v .layout .index) (ap (λ l. l .index) (h .layout)) (omega (arith, is-long h))
-      (g .moreSlots) (g .fits) behind
+      ⨾ index-step (p .indexMoves) (indexStart p) (p .slots) (room-more (indexStart p) (omega arith) room-names) (v .layout .index)
+      (ap (λ l. l .index) (h .layout)) (omega (arith, is-long h)) (g .moreSlots)
+      (λ m. omega (arith, taken (p .indexMoves) (indexStart p + 32 * p .slots) (namesDone p) m, g .fits)) behind
       ⨾ store-entries (p .entries) (p .start) (p .body) (behind (ready v p .layout) (ready v p .layout) refl refl) last
       (g .entriesFit) (g .sound) (g .exact) (room-ready .offIndex)
     where

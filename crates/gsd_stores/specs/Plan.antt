@@ -10,13 +10,14 @@ use Rattle.gsd_format.specs.Header.{slotSize, segmentSize}
 use Rattle.gsd_format.specs.Names.{flat, indexOf}
 use Rattle.gsd_format.specs.Entries.{framesOf}
 use Rattle.gsd_stores.specs.Sheet.{Row}
-use Rattle.gsd_stores.specs.View.{View, alignment, endOfUse}
+use Rattle.gsd_stores.specs.Stores.{wordSize}
+use Rattle.gsd_stores.specs.View.{View, aligned, endOfUse}
 
 pub record Plan : Type 0 where
   -- where the data begin: the end of use
   pub start : ℕ
-  -- all data, row by row, each padded
-  pub body : List ℕ
+  -- the data, row by row, each padded to whole words
+  pub body : List (List ℕ)
   -- the new names in row order
   pub fresh : List (List ℕ)
   -- whether the name block moves, and the segments of the new one
@@ -28,28 +29,33 @@ pub record Plan : Type 0 where
   -- the new entries, sorted by id
   pub entries : List Entry
 
--- data padded with zeros up to the next aligned place
+-- data padded with zeros to whole words
 abbrev pub padded : List ℕ → List ℕ
-padded b = b ++ zeros (roundUp alignment (length b) - length b)
+padded b = b ++ zeros (roundUp wordSize (length b) - length b)
 
-unfoldable pub bodies : List Row → List ℕ
+unfoldable pub bodies : List Row → List (List ℕ)
 bodies [] = []
-bodies (r ∷ rs) = padded (r .body) ++ bodies rs
+bodies (r ∷ rs) = padded (r .body) ∷ bodies rs
 
--- where the i-th row's data lie among all data
-abbrev pub bodyOffset : List Row → ℕ → ℕ
-bodyOffset rs i = length (bodies (take i rs))
+-- the position behind texts that lie one behind the other from pos on, each at the next aligned place
+unfoldable pub endFrom : ℕ → List (List ℕ) → ℕ
+endFrom pos [] = pos
+endFrom pos (b ∷ bs) = endFrom (aligned pos + length b) bs
+
+-- where the i-th row's data lie, if the data lie from pos on
+abbrev pub bodyPlace : ℕ → List Row → ℕ → ℕ
+bodyPlace pos rs i = aligned (endFrom pos (bodies (take i rs)))
 
 unfoldable pub newNames : List (List ℕ) → List Row → List (List ℕ)
 newNames names [] = []
 newNames names (r ∷ rs) = elim (ltb (indexOf (r .name) names) (length names)) [ true ↦ newNames names rs | false ↦ r .name ∷ newNames names rs ]
 
--- the rows' entries in row order, their data from pos on; an empty chunk takes the current position as its location
+-- the rows' entries in row order, their data from pos on; an empty chunk too has the next aligned place as its location
 unfoldable pub newEntries : ℕ → ℕ → List (List ℕ) → List Row → List Entry
 newEntries pos frame names [] = []
 newEntries pos frame names (r ∷ rs) =
-    record { frame = frame; n = r .n; location = pos; m = r .m; id = indexOf (r .name) names; kind = r .kind; flags = 0 }
-    ∷ newEntries (pos + length (padded (r .body))) frame names rs
+    record { frame = frame; n = r .n; location = aligned pos; m = r .m; id = indexOf (r .name) names; kind = r .kind; flags = 0 }
+    ∷ newEntries (aligned pos + length (padded (r .body))) frame names rs
 
 -- sorted by id
 unfoldable pub inserted : Entry → List Entry → List Entry
@@ -88,10 +94,17 @@ planOf v rs =
 
 -- the current position after the data, after a new name block, and at the end: the final position
 abbrev pub dataEnd : Plan → ℕ
-dataEnd p = p .start + length (p .body)
+dataEnd p = endFrom (p .start) (p .body)
+
+-- where a new name block starts, and a new index block
+abbrev pub namesStart : Plan → ℕ
+namesStart p = aligned (dataEnd p)
 
 abbrev pub namesDone : Plan → ℕ
-namesDone p = cond (p .namesMove) (dataEnd p + segmentSize * p .segments) (dataEnd p)
+namesDone p = cond (p .namesMove) (namesStart p + segmentSize * p .segments) (dataEnd p)
+
+abbrev pub indexStart : Plan → ℕ
+indexStart p = aligned (namesDone p)
 
 abbrev pub finalPosition : Plan → ℕ
-finalPosition p = cond (p .indexMoves) (namesDone p + slotSize * p .slots) (namesDone p)
+finalPosition p = cond (p .indexMoves) (indexStart p + slotSize * p .slots) (namesDone p)

@@ -8,9 +8,9 @@ use Rattle.gsd_format.specs.Bytes.{leBytes, part}
 use Rattle.gsd_format.specs.Header.{indexPlace, namelistPlace, slotSize}
 use Rattle.gsd_format.specs.Names.{flat}
 use Rattle.gsd_stores.specs.Stores.{Store, wordSize, words, up, down, slotsDown}
-use Rattle.gsd_stores.specs.View.{View, viewOf, entriesEnd, namesEnd, namelistEnd}
+use Rattle.gsd_stores.specs.View.{View, viewOf, aligned, entriesEnd, namesEnd, namelistEnd}
 use Rattle.gsd_stores.specs.Sheet.{Row}
-use Rattle.gsd_stores.specs.Plan.{Plan, planOf, dataEnd, namesDone}
+use Rattle.gsd_stores.specs.Plan.{Plan, planOf, namesStart, indexStart}
 
 -- the words of a slot, and of a segment
 abbrev pub slotWords : ℕ
@@ -29,9 +29,14 @@ clearNames v =
     let first : ℕ = namesEnd v / wordSize * wordSize in
     words (flat (v .names)) (v .layout .namelist) (up first ((namelistEnd (v .layout) - first) / wordSize))
 
--- 2. Data, row by row, from the end of use, upwards, each row padded with zeros.
-unfoldable pub storeData : Plan → List Store
-storeData p = words (p .body) (p .start) (up (p .start) (length (p .body) / wordSize))
+-- 2. Data, row by row, from the end of use, upwards, each row padded with zeros and at the next aligned place. Words
+-- between them are not stored.
+unfoldable pub storeTexts : ℕ → List (List ℕ) → List Store
+storeTexts pos [] = []
+storeTexts pos (b ∷ bs) = words b (aligned pos) (up (aligned pos) (length b / wordSize)) ++ storeTexts (aligned pos + length b) bs
+
+abbrev pub storeData : Plan → List Store
+storeData p = storeTexts (p .start) (p .body)
 
 -- A block moves to b: all its n words upwards, the old text and then zeros; then its header word at h, then the next
 -- one, with its new count.
@@ -39,9 +44,9 @@ unfoldable pub moved : Bool → ℕ → ℕ → List ℕ → ℕ → ℕ → Lis
 moved false b n text h count = []
 moved true b n text h count = words text b (up b n) ++ words (leBytes 8 b) h (up h 1) ++ words (leBytes 8 count) (h + wordSize) (up (h + wordSize) 1)
 
--- 3. If the new names don't fit: a new name block at the current position.
+-- 3. If the new names don't fit: a new name block at the next aligned place.
 unfoldable pub moveNames : View → Plan → List Store
-moveNames v p = moved (p .namesMove) (dataEnd p) (segmentWords * p .segments) (flat (v .names)) namelistPlace (p .segments)
+moveNames v p = moved (p .namesMove) (namesStart p) (segmentWords * p .segments) (flat (v .names)) namelistPlace (p .segments)
 
 -- 4. New names in row order, each from the highest word that holds one of its own bytes to the lowest. A word holds
 -- the names before it and no byte of a name behind it; the closing zero is already there.
@@ -57,7 +62,7 @@ storeNames block names (b ∷ bs) = storeName block (flat names) b ++ storeNames
 -- 5. If free slots are too few: a new index block in the same way, the old entries byte for byte.
 unfoldable pub moveIndex : List ℕ → View → Plan → List Store
 moveIndex img v p =
-    moved (p .indexMoves) (namesDone p) (slotWords * p .slots) (part img (v .layout .index) (slotSize * length (v .entries))) indexPlace (p .slots)
+    moved (p .indexMoves) (indexStart p) (slotWords * p .slots) (part img (v .layout .index) (slotSize * length (v .entries))) indexPlace (p .slots)
 
 unfoldable pub entryBytes : Entry → List ℕ
 entryBytes e = leBytes 8 (e .frame) ++ leBytes 8 (e .n) ++ leBytes 8 (e .location) ++ leBytes 4 (e .m) ++ leBytes 2 (e .id) ++ e .kind ∷ e .flags ∷ []
@@ -72,10 +77,10 @@ storeEntries slot es = words (indexBytes es) slot (slotsDown slot (length es))
 
 -- where the blocks lie after steps 3 and 5
 abbrev pub nameBlock : View → Plan → ℕ
-nameBlock v p = cond (p .namesMove) (dataEnd p) (v .layout .namelist)
+nameBlock v p = cond (p .namesMove) (namesStart p) (v .layout .namelist)
 
 abbrev pub indexBlock : View → Plan → ℕ
-indexBlock v p = cond (p .indexMoves) (namesDone p) (v .layout .index)
+indexBlock v p = cond (p .indexMoves) (indexStart p) (v .layout .index)
 
 unfoldable pub stepsOf : List ℕ → View → Plan → List Store
 stepsOf img v p =

@@ -1,4 +1,4 @@
--- A store writes one 8-byte word. The stores of an append come in runs: the words of one text at a list of places.
+-- A store writes one 8-byte word. The stores of an append come in extents: the words of one text at a list of places.
 use Prim.Native.Nat.{ℕ, zero, suc, _+_, _*_, _-_}
 use mathlib.Core.List.{List, [], _∷_}
 use lib.ListN.{getD}
@@ -9,6 +9,10 @@ use Rattle.gsd_format.specs.Entries.{nPlace, locationPlace, mPlace}
 -- the bytes of a word
 abbrev pub wordSize : ℕ
 wordSize = 8
+
+-- what no slice's length exceeds
+abbrev pub half : ℕ
+half = 9223372036854775808
 
 pub record Store : Type 0 where
   pub place : ℕ

@@ -30,11 +30,14 @@ entriesEnd v = v .layout .index + slotSize * length (v .entries)
 abbrev pub namesEnd : View → ℕ
 namesEnd v = v .layout .namelist + length (flat (v .names))
 
--- starts and ends of chunks and blocks are rounded up to this
+-- chunks and blocks start at multiples of this
 abbrev pub alignment : ℕ
 alignment = 8
+
+abbrev pub aligned : ℕ → ℕ
+aligned n = roundUp alignment n
 
 -- the end of use (a term of this library): the first aligned place behind the header, both blocks and all listed chunks.
 -- Room behind it, used by a stopped append or not, is free
 unfoldable pub endOfUse : View → ℕ
-endOfUse v = roundUp alignment (max headerSize (max (indexEnd (v .layout)) (max (namelistEnd (v .layout)) (chunksEnd (v .entries)))))
+endOfUse v = aligned (max headerSize (max (indexEnd (v .layout)) (max (namelistEnd (v .layout)) (chunksEnd (v .entries)))))

@@ -1,4 +1,4 @@
--- How many stores a plan makes: the words of its runs, and one for each word of the entries.
+-- How many stores a plan makes: the words of its extents, and one for each word of the entries.
 use Prim.Native.Nat.{ℕ, zero, suc, _+_, _*_, _≤_, _<_}
 use mathlib.Core.Path.{_≡_, refl, ap}
 use mathlib.Core.List.{List, [], _∷_, _++_}
@@ -6,74 +6,82 @@ use native.Mathlib.Numerals.{add-one}
 use native.Mathlib.Omega.{arith}
 use lib.ListN.{length, getD, take, drop, length-append, take-append-drop}
 use lib.Seq.{take-suc, take-append-le, take-all}
-use Rattle.gsd_runs.specs.declared.run.Run.{Run}
-use Rattle.gsd_runs.specs.Exec.{steps}
-use Rattle.gsd_runs.specs.Runs.{none}
-use Rattle.gsd_runs.proofs.Steps.{stepsFrom-length, steps-append}
-use Rattle.gsd_plan.specs.declared.Plan.{Plan}
-use Rattle.gsd_plan.specs.Plans.{bodyRun, nameRun, entryRun, tab, clears, block, slots, runsOf, headsFrom}
-use Rattle.gsd_plan.proofs.Plans.{tab-length}
+use Rattle.gsd_extents.specs.declared.extent.Extent.{Extent}
+use Rattle.gsd_extents.specs.Exec.{tasks}
+use Rattle.gsd_extents.specs.Extents.{none}
+use Rattle.gsd_extents.proofs.Tasks.{tasksFrom-length, tasks-append}
+use Rattle.gsd_steps.specs.Numbers.{rowsIn, freshIn}
+use Rattle.gsd_steps.specs.Steps.{clearExtent, dataExtent, nameMove, indexMove, moveExtent, nameExtent, entryExtent, tab, extentsOf, extentCount}
+use Rattle.gsd_steps.proofs.Steps.{tab-length, extents-length}
 
--- the steps of runs in a row, and of one more run
-pub count-append : (a b : List Run) → length (steps (a ++ b)) ≡ length (steps a) + length (steps b)
-count-append a b = rw (steps-append a b, length-append)
+-- the tasks of extents in a row, and of one more extent
+pub count-append : (a b : List Extent) → length (tasks (a ++ b)) ≡ length (tasks a) + length (tasks b)
+count-append a b = rw (tasks-append a b, length-append)
 
-pub count-cons : (r : Run) (rs : List Run) → length (steps (r ∷ rs)) ≡ r .words + length (steps rs)
-unfolding steps
-count-cons r rs = rw (length-append, stepsFrom-length)
+pub count-cons : (x : Extent) (xs : List Extent) → length (tasks (x ∷ xs)) ≡ x .words + length (tasks xs)
+unfolding tasks
+count-cons x xs = rw (length-append, tasksFrom-length)
 
-count-next : (rs : List Run) (i : ℕ) → i < length rs → length (steps (take (i + 1) rs)) ≡ length (steps (take i rs)) + getD rs i none .words
-unfolding steps
-count-next rs i h =
-    rw (add-one, take-suc rs i none h)
-    (omega (arith, count-append (take i rs) (getD rs i none ∷ []), count-cons (getD rs i none) []))
+count-next : (xs : List Extent) (i : ℕ) → i < length xs → length (tasks (take (i + 1) xs)) ≡ length (tasks (take i xs)) + getD xs i none .words
+unfolding tasks
+count-next xs i h =
+    rw (add-one, take-suc xs i none h)
+    (omega (arith, count-append (take i xs) (getD xs i none ∷ []), count-cons (getD xs i none) []))
 
-count-take : (rs : List Run) (i : ℕ) → length (steps (take i rs)) ≤ length (steps rs)
-count-take rs i = omega (arith, count-append (take i rs) (drop i rs), ap (λ l. length (steps l)) (take-append-drop i rs))
+count-take : (xs : List Extent) (i : ℕ) → length (tasks (take i xs)) ≤ length (tasks xs)
+count-take xs i = omega (arith, count-append (take i xs) (drop i xs), ap (λ l. length (tasks l)) (take-append-drop i xs))
 
--- runs of one word each
-count-ones : (f : ℕ → Run) (i n : ℕ) → ((k : ℕ) → f k .words ≡ 1) → length (steps (tab f i n)) ≡ n
-unfolding tab steps
+-- extents of one word each
+count-ones : (f : ℕ → Extent) (i n : ℕ) → ((k : ℕ) → f k .words ≡ 1) → length (tasks (tab f i n)) ≡ n
+unfolding tab tasks
 count-ones f i zero h = refl
 count-ones f i (suc n) h = omega (arith, count-cons (f i) (tab f (suc i) n), h i, count-ones f (suc i) n h)
 
-module _ (p : Plan) where
-  -- the runs before the entries
-  abbrev front : List Run
-  front = clears (headsFrom (p .heads)) ++ tab (bodyRun p) 0 (p .rows) ++ block (headsFrom (p .heads)) ++ tab (nameRun p) 0 (p .fresh) ++ slots (headsFrom (p .heads))
+module _ (sheet p : List ℕ) where
+  -- the extents before the entries
+  abbrev front : List Extent
+  front =
+      tab (clearExtent p) 0 3
+      ++ tab (dataExtent p) 0 (rowsIn p)
+      ++ tab (moveExtent (nameMove p)) 0 4
+      ++ tab (nameExtent p) 0 (freshIn p)
+      ++ tab (moveExtent (indexMove p)) 0 4
 
-  runs-front : runsOf p ≡ front ++ tab (entryRun p) 0 (4 * p .rows)
-  unfolding runsOf
-  runs-front = refl
+  abbrev entries : List Extent
+  entries = tab (entryExtent sheet p) 0 (4 * rowsIn p)
 
-  front-length : length front ≡ 11 + p .fresh + p .rows
+  extents-front : extentsOf sheet p ≡ front ++ entries
+  unfolding extentsOf
+  extents-front = refl
+
+  front-length : length front ≡ 11 + freshIn p + rowsIn p
   front-length = simp (length-append, tab-length) (omega arith)
 
-  count-entries : length (steps (tab (entryRun p) 0 (4 * p .rows))) ≡ 4 * p .rows
-  unfolding entryRun
-  count-entries = count-ones (entryRun p) 0 (4 * p .rows) (λ k. refl)
+  count-entries : length (tasks entries) ≡ 4 * rowsIn p
+  unfolding entryExtent
+  count-entries = count-ones (entryExtent sheet p) 0 (4 * rowsIn p) (λ k. refl)
 
-  count-runs : length (steps (runsOf p)) ≡ length (steps front) + 4 * p .rows
-  count-runs = rw runs-front (omega (arith, count-append front (tab (entryRun p) 0 (4 * p .rows)), count-entries))
+  count-extents : length (tasks (extentsOf sheet p)) ≡ length (tasks front) + 4 * rowsIn p
+  count-extents = rw extents-front (omega (arith, count-append front entries, count-entries))
 
-  take-front : (r : ℕ) → r ≤ 11 + p .fresh + p .rows → take r (runsOf p) ≡ take r front
-  take-front r h = rw runs-front (take-append-le r front (tab (entryRun p) 0 (4 * p .rows)) (omega (arith, front-length)))
+  take-front : (r : ℕ) → r ≤ 11 + freshIn p + rowsIn p → take r (extentsOf sheet p) ≡ take r front
+  take-front r h = rw extents-front (take-append-le r front entries (omega (arith, front-length)))
 
-  -- the entries' words, and the words of the first r runs
+  -- the entries' words, and the words of the first r extents
   abbrev pub counted : ℕ → ℕ
-  counted r = 4 * p .rows + length (steps (take r (runsOf p)))
+  counted r = 4 * rowsIn p + length (tasks (take r (extentsOf sheet p)))
 
-  pub counted-none : counted 0 ≡ 4 * p .rows
-  unfolding steps
+  pub counted-none : counted 0 ≡ 4 * rowsIn p
+  unfolding tasks
   counted-none = omega arith
 
-  pub counted-more : (r : ℕ) (x : Run) → x ≡ getD (runsOf p) r none → r < length (runsOf p) → counted (r + 1) ≡ counted r + x .words
-  counted-more r x e h = rw e (omega (arith, count-next (runsOf p) r h))
+  pub counted-more : (r : ℕ) (x : Extent) → x ≡ getD (extentsOf sheet p) r none → r < extentCount p → counted (r + 1) ≡ counted r + x .words
+  counted-more r x e h = rw e (omega (arith, count-next (extentsOf sheet p) r (rw extents-length h)))
 
-  pub counted-within : (r : ℕ) → r ≤ 11 + p .fresh + p .rows → counted r ≤ length (steps (runsOf p))
-  counted-within r h = rw take-front (omega (arith, count-runs, count-take front r))
+  pub counted-within : (r : ℕ) → r ≤ 11 + freshIn p + rowsIn p → counted r ≤ length (tasks (extentsOf sheet p))
+  counted-within r h = rw take-front (omega (arith, count-extents, count-take front r))
 
-  pub counted-all : counted (11 + p .fresh + p .rows) ≡ length (steps (runsOf p))
+  pub counted-all : counted (11 + freshIn p + rowsIn p) ≡ length (tasks (extentsOf sheet p))
   counted-all =
-      let all : take (11 + p .fresh + p .rows) front ≡ front = take-all (11 + p .fresh + p .rows) front (omega (arith, front-length)) in
-      rw (take-front (11 + p .fresh + p .rows) (omega arith), all) (omega (arith, count-runs))
+      let all : take (11 + freshIn p + rowsIn p) front ≡ front = take-all (11 + freshIn p + rowsIn p) front (omega (arith, front-length)) in
+      rw (take-front (11 + freshIn p + rowsIn p) (omega arith), all) (omega (arith, count-extents))

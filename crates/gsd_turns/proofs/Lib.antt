@@ -1,3 +1,3 @@
--- Laws of how many stores the runs of a plan make, and of turns.
+-- Laws of how many stores the extents of a plan make, and of turns.
 pub mod Count
 pub mod Turns

@@ -1,2 +1,2 @@
--- How many stores of a plan's runs a turn makes.
+-- How many stores of a plan's extents a turn makes.
 pub mod Turns

@@ -1,31 +1,31 @@
--- A turn makes the next stores of a plan, as many as its limit lets it, from a cursor on: a run and a word of it.
+-- A turn makes the next stores of a plan, as many as its limit lets it, from a cursor on: an extent and a word of it. p is the
+-- plan's words.
 use Prim.Native.Nat.{ℕ, _≤_, min}
 use mathlib.Core.Path.{_≡_}
 use mathlib.Core.List.{List}
 use lib.ListN.{getD, length, take, drop}
-use Rattle.gsd_runs.specs.Exec.{Step, rest, exec}
-use Rattle.gsd_runs.specs.Runs.{none}
-use Rattle.gsd_plan.specs.declared.Plan.{Plan}
+use Rattle.gsd_extents.specs.Exec.{Task, rest, exec}
+use Rattle.gsd_extents.specs.Extents.{none}
+use Rattle.gsd_steps.specs.Steps.{extentsOf}
 use Rattle.gsd_turns.specs.declared.turn.Turned.{Turned}
-use Rattle.gsd_plan.specs.Plans.{runsOf}
 
--- the steps that are still to be made at a cursor
-abbrev pub ahead : Plan → ℕ → ℕ → List Step
-ahead p r w = rest (drop r (runsOf p)) w
+-- the tasks that are still to be done at a cursor
+abbrev pub ahead : List ℕ → List ℕ → ℕ → ℕ → List Task
+ahead sheet p r w = rest (drop r (extentsOf sheet p)) w
 
--- the cursor stands at a run and within it, or behind all runs
-pub record Cursor (p : Plan) (r w : ℕ) : Type 0 where
-  pub run : r ≤ length (runsOf p)
-  pub word : w ≤ getD (runsOf p) r none .words
+-- the cursor stands at an extent and within it, or behind all extents
+pub record Cursor (sheet p : List ℕ) (r w : ℕ) : Type 0 where
+  pub extent : r ≤ length (extentsOf sheet p)
+  pub word : w ≤ getD (extentsOf sheet p) r none .words
 
--- the first k of all steps are made, and those that are left are ahead
-pub record Walked (sheet img₀ : List ℕ) (all : List Step) (k : ℕ) (img : List ℕ) (here : List Step) : Type 0 where
+-- the first k of all tasks are done, and those that are left are here
+pub record Walked (sheet img₀ : List ℕ) (all : List Task) (k : ℕ) (img : List ℕ) (here : List Task) : Type 0 where
   pub image : img ≡ exec sheet img₀ (take k all)
   pub left : here ≡ drop k all
   pub within : k ≤ length all
 
 -- a turn from the cursor r, w
-pub record TurnSays (sheet img : List ℕ) (p : Plan) (r w limit : ℕ) (t : Turned) (img′ : List ℕ) : Type 0 where
-  pub walked : Walked sheet img (ahead p r w) (t .made) img′ (ahead p (t .run) (t .word))
-  pub made : t .made ≡ min limit (length (ahead p r w))
-  pub cursor : Cursor p (t .run) (t .word)
+pub record TurnSays (sheet img p : List ℕ) (r w limit : ℕ) (t : Turned) (img′ : List ℕ) : Type 0 where
+  pub walked : Walked sheet img (ahead sheet p r w) (t .made) img′ (ahead sheet p (t .extent) (t .word))
+  pub made : t .made ≡ min limit (length (ahead sheet p r w))
+  pub cursor : Cursor sheet p (t .extent) (t .word)

@@ -1,19 +1,20 @@
-// The loop over the runs of a plan.
-use gsd_plan::Plan;
-use gsd_plan::run_at;
-use gsd_runs::Run;
-use gsd_runs::stores;
+// The loop over the extents of a plan.
+use gsd_extents::Extent;
+use gsd_extents::stores;
+use gsd_steps::extent_at;
+use gsd_steps::numbers::FRESH;
+use gsd_steps::numbers::ROWS;
 ghost use mathlib.Core.Path.{_≡_};
-ghost use Prim.Native.Nat.{_+_, _-_, _*_, _≤_, _<_, min};
+ghost use Prim.Native.Nat.{_-_, _≤_, min};
 ghost use lib.ListN.{length};
-ghost use Rattle.gsd_runs.specs.Exec.{Good, stepsFrom, steps, exec};
-ghost use Rattle.gsd_runs.specs.Runs.{half};
-ghost use Rattle.gsd_plan.specs.Plans.{runsOf, Ready};
+ghost use Rattle.gsd_stores.specs.Stores.{half};
+ghost use Rattle.gsd_extents.specs.Exec.{Good, tasksFrom, tasks, exec};
+ghost use Rattle.gsd_steps.specs.Steps.{extentsOf, Ready};
 ghost use Rattle.gsd_turns.specs.Turns.{Cursor, TurnSays};
 
-// The cursor (the next run, and the next word of it) and how many stores were made.
+// The cursor (the next extent, and the next word of it) and how many stores were made.
 pub struct Turned {
-    pub run: usize,
+    pub extent: usize,
     pub word: usize,
     pub made: u64,
 }
@@ -24,15 +25,15 @@ fn at_most(n: usize, left: u64) -> usize
     if left < n as u64 { left as usize } else { n }
 }
 
-// The stores of a run from word w on, at most `left` of them: how many were made.
-fn some_stores(image: &mut [u8], sheet: &[u8], run: Run, w: usize, left: u64) -> usize
-    requires good { ⌜ Good (length (now image)) (length (now sheet)) run ⌝ }
-    requires word { ⌜ w ≤ run .words ⌝ }
-    ensures answer { λ n. ⌜ n ≡ min left (run .words - w) ⌝ }
-    ensures image { λ n. ⌜ now (image .exit) ≡ exec (now (sheet .entry)) (now (image .entry)) (stepsFrom run w n) ⌝ }
+// The stores of an extent from word w on, at most `left` of them: how many were made.
+fn some_stores(image: &mut [u8], sheet: &[u8], x: Extent, w: usize, left: u64) -> usize
+    requires good { ⌜ Good (length (now image)) (length (now sheet)) x ⌝ }
+    requires word { ⌜ w ≤ x .words ⌝ }
+    ensures answer { λ n. ⌜ n ≡ min left (x .words - w) ⌝ }
+    ensures image { λ n. ⌜ now (image .exit) ≡ exec (now (sheet .entry)) (now (image .entry)) (tasksFrom x w n) ⌝ }
 {
-    let n = at_most(run.words - w, left);
-    stores(image, sheet, run, w, n);
+    let n = at_most(x.words - w, left);
+    stores(image, sheet, x, w, n);
     n
 }
 
@@ -40,43 +41,27 @@ fn some_stores(image: &mut [u8], sheet: &[u8], run: Run, w: usize, left: u64) ->
 pub fn turn(
     image: &mut [u8],
     sheet: &[u8],
-    plan: Plan,
-    run: usize,
+    plan: &[u64],
+    extent: usize,
     word: usize,
     limit: u64,
 ) -> Turned
-    requires ready { ⌜ Ready (length (now image)) (length (now sheet)) plan ⌝ }
-    requires cursor { ⌜ Cursor plan run word ⌝ }
-    ensures { λ t. ⌜ TurnSays (now (sheet .entry)) (now (image .entry)) plan run word limit t (now (image .exit)) ⌝ }
+    requires ready { ⌜ Ready (length (now image)) (now sheet) (now plan) ⌝ }
+    requires cursor { ⌜ Cursor (now sheet) (now plan) extent word ⌝ }
+    ensures { λ t. ⌜ TurnSays (now (sheet .entry)) (now (image .entry)) (now (plan .entry)) extent word limit t (now (image .exit)) ⌝ }
 {
-    let count = 11 + plan.fresh + 5 * plan.rows;
-    let mut r = run;
+    let count = 11 + plan[FRESH] as usize + 5 * plan[ROWS] as usize;
+    let mut r = extent;
     let mut w = word;
     let mut left = limit;
     while r < count {
-        let x = run_at(
-            plan.rows,
-            plan.fresh,
-            &plan.heads,
-            &plan.body_to,
-            &plan.body_from,
-            &plan.body_until,
-            &plan.name_at,
-            &plan.name_from,
-            &plan.name_until,
-            plan.slot,
-            plan.frame,
-            &plan.n,
-            &plan.meta,
-            &plan.location,
-            r,
-        );
+        let x = extent_at(sheet, plan, r);
         let n = some_stores(image, sheet, x, w, left);
         w += n;
         left -= n as u64;
         if w < x.words {
             return Turned {
-                run: r,
+                extent: r,
                 word: w,
                 made: limit - left,
             };
@@ -85,38 +70,23 @@ pub fn turn(
         w = 0;
     }
     Turned {
-        run: r,
+        extent: r,
         word: 0,
         made: limit - left,
     }
 }
 
-// The number of all stores of a plan. Each of an entry's four words is a run of its own.
-pub fn whole(plan: Plan) -> u64
-    requires { ⌜ Ready half half plan ⌝ }
-    ensures { λ r. ⌜ r ≡ length (steps (runsOf plan)) ⌝ }
+// The number of all stores of a plan. Each of an entry's four words is an extent of its own.
+pub fn whole(sheet: &[u8], plan: &[u64]) -> u64
+    requires { ⌜ Ready half (now sheet) (now plan) ⌝ }
+    ensures { λ r. ⌜ r ≡ length (tasks (extentsOf (now (sheet .entry)) (now (plan .entry)))) ⌝ }
 {
-    let count = 11 + plan.fresh + plan.rows;
-    let mut sum = 4 * plan.rows as u64;
+    let rows = plan[ROWS] as usize;
+    let count = 11 + plan[FRESH] as usize + rows;
+    let mut sum = 4 * rows as u64;
     let mut r = 0;
     while r < count {
-        let x = run_at(
-            plan.rows,
-            plan.fresh,
-            &plan.heads,
-            &plan.body_to,
-            &plan.body_from,
-            &plan.body_until,
-            &plan.name_at,
-            &plan.name_from,
-            &plan.name_until,
-            plan.slot,
-            plan.frame,
-            &plan.n,
-            &plan.meta,
-            &plan.location,
-            r,
-        );
+        let x = extent_at(sheet, plan, r);
         sum += x.words as u64;
         r += 1;
     }

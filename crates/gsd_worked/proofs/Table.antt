@@ -16,12 +16,21 @@ use Rattle.gsd_format.specs.Answers.{openingNumber, openingValues, listedNumber
 use Rattle.gsd_stores.specs.Sheet.{bodySize, badTable, bodiesEnd, rowsAt, rowsOf, anyZero, sheetTest}
 use Rattle.gsd_stores.specs.Stores.{after, words, up, down, slotsDown}
 use Rattle.gsd_stores.specs.View.{viewOf, endOfUse}
-use Rattle.gsd_stores.specs.Plan.{bodies, newNames, newEntries, inserted, sorted, doubled, planOf}
-use Rattle.gsd_stores.specs.Steps.{clearIndex, clearNames, storeData, moved, moveNames, storeName, storeNames, moveIndex, entryBytes, indexBytes, storeEntries, stepsOf, storeList}
+use Rattle.gsd_stores.specs.Plan.{bodies, endFrom, newNames, newEntries, inserted, sorted, doubled, planOf}
+use Rattle.gsd_stores.specs.Steps.{clearIndex, clearNames, storeTexts, moved, moveNames, storeName, storeNames, moveIndex, entryBytes, indexBytes, storeEntries, stepsOf, storeList}
 use Rattle.gsd_stores.specs.Append.{imageTest, planTest, appendTest, storesFor, appendAnswer, appended}
 use Rattle.gsd_stores.specs.Runs.{afterRun, lastStoreMade, completed}
 use Rattle.gsd_worked.specs.Table.{tableRow, sheetA, sheetB, freshIn, createdIn, stepCounts, shown, table, passes}
 
 pub starred : passes table ≡ true
-unfolding le leBytes same zeroIn stored ascii _⇒_ _▹_ sizeOf layoutOf partsAt nameParts namesOf flat indexOf entryAt entriesAt entriesOf framesFrom headerTest blocksTest twins namesTest entryTest entriesTest verdict countsOf opening nthEntry nthName findEntry lookupIn lookup placed chunkPlace bytesAt orDefault createTest freshHeader fresh createNumber created digits decimal fields entryLine entryLines countsLine listing printed openingNumber openingValues listedNumber listedValues placeNumber placeValues elementNumber bits64 elementValues bodySize badTable bodiesEnd rowsAt rowsOf anyZero sheetTest after words up down slotsDown viewOf chunksEnd endOfUse bodies newNames newEntries inserted sorted doubled planOf clearIndex clearNames storeData moved moveNames storeName storeNames moveIndex entryBytes indexBytes storeEntries stepsOf storeList imageTest planTest appendTest storesFor appendAnswer appended afterRun lastStoreMade completed tableRow sheetA sheetB freshIn createdIn stepCounts shown table passes
+unfolding le leBytes same zeroIn stored ascii _⇒_ _▹_ sizeOf layoutOf partsAt nameParts namesOf flat indexOf entryAt
+    entriesAt entriesOf framesFrom headerTest blocksTest twins namesTest entryTest entriesTest verdict countsOf
+    opening nthEntry nthName findEntry lookupIn lookup placed chunkPlace bytesAt orDefault createTest freshHeader
+    fresh createNumber created digits decimal fields entryLine entryLines countsLine listing printed openingNumber
+    openingValues listedNumber listedValues placeNumber placeValues elementNumber bits64 elementValues bodySize
+    badTable bodiesEnd rowsAt rowsOf anyZero sheetTest after words up down slotsDown viewOf chunksEnd endOfUse bodies
+    newNames newEntries inserted sorted doubled planOf clearIndex clearNames storeTexts endFrom moved moveNames
+    storeName storeNames moveIndex entryBytes indexBytes storeEntries stepsOf storeList imageTest planTest appendTest
+    storesFor appendAnswer appended afterRun lastStoreMade completed tableRow sheetA sheetB freshIn createdIn
+    stepCounts shown table passes
 starred = refl

@@ -12,21 +12,23 @@ use Rattle.gsd_sheet.proofs.repeated.Statement.{statement}
 use Rattle.gsd_sheet.proofs.repeated.Tie as tie
 
 abbrev Inv-loop : tie.InvT-loop
-Inv-loop sheet names bodies i j₀ j = (j ≤ i) × ((k : ℕ) → k < j → nameOf sheet k ≡ nameOf sheet i → ⊥)
+Inv-loop sheet plan i j₀ j = (j ≤ i) × ((k : ℕ) → k < j → nameOf sheet k ≡ nameOf sheet i → ⊥)
 
 abbrev μ-loop : tie.MeasureT-loop
-μ-loop sheet names bodies i j₀ j = i - j
+μ-loop sheet plan i j₀ j = i - j
 
 loop-holds : tie.Need-loop-holds Inv-loop μ-loop
 loop-holds c = (search needs, λ k l. absurd (omega arith))
 
 same-name-requires : tie.Need-same-name-requires Inv-loop μ-loop
-same-name-requires c κs = search needs
+same-name-requires c κs =
+    let pre = c .before .before .before .before .pre in
+    (pre .0, (pre .1 .0, (omega arith, omega arith)))
 
 returns : tie.Need-returns Inv-loop μ-loop
 returns c =
     let head = c .before .before .before in
-    let x = head .before .before .args in
+    let x = head .before .before .before .args in
     let s = x .sheet .now in
     sym (repeats-yes (sheetNames s) (x .i) (head .loop .j) (omega arith) (omega (arith, names-count s))
     (same-eq (nameOf s (head .loop .j)) (nameOf s (x .i)) (sym (c .before .same-name .ensures) ∙ c .if1 .taken)))
@@ -40,7 +42,7 @@ loop-less c = search needs
 loop-again : tie.Need-loop-again Inv-loop μ-loop
 loop-again c =
     let head = c .before .before .before in
-    let x = head .before .before .args in
+    let x = head .before .before .before .args in
     let s = x .sheet .now in (
       search needs,
       below-more (λ k. nameOf s k ≡ nameOf s (x .i) → ⊥) (head .loop .j) (head .loop .inv .1) (λ e.
@@ -49,7 +51,7 @@ loop-again c =
 
 returns-2 : tie.Need-returns-2 Inv-loop μ-loop
 returns-2 c =
-    let x = c .before .before .before .args in
+    let x = c .before .before .before .before .args in
     let s = x .sheet .now in
     sym (repeats-no (sheetNames s) (x .i) (omega (arith, names-count s)) (λ k l. c .before .loop .inv .1 k (omega arith)))
 

@@ -12,8 +12,8 @@ use Rattle.gsd_sheet.proofs.table_number.Tie as tie
 returns : tie.Need-returns
 returns c = sym (table-short (c .before .before .args .sheet .now) (c .if1 .taken))
 
-u32-at-requires : tie.Need-u32-at-requires
-u32-at-requires c κs = search needs
+row-count-requires : tie.Need-row-count-requires
+row-count-requires c κs = search needs
 
 returns-2 : tie.Need-returns-2
 returns-2 c = sym (table-none (c .before .before .before .before .args .sheet .now) (omega arith) (omega arith))
@@ -40,7 +40,7 @@ unfolding _⇒_
 returns-5 c =
     let start = c .before .before .before .before .before .before .before .before in
     let s = start .args .sheet .now in
-    let e : badTable s 4 (rowCount s) ≡ true = rw (c .before .before .before .before .before .u32-at .ensures .0) at (sym (c .before .bad-table .ensures) ∙ c .if5 .taken) in
+    let e : badTable s 4 (rowCount s) ≡ true = rw (c .before .before .before .before .before .row-count .ensures) at (sym (c .before .bad-table .ensures) ∙ c .if5 .taken) in
     sym (table-whole s (omega arith) (omega arith) (omega arith) (omega arith) ∙ rw (e, _⇒_))
 
 returns-6 : tie.Need-returns-6
@@ -48,7 +48,7 @@ unfolding _⇒_
 returns-6 c =
     let start = c .before .before .before .before .before .before .before .before in
     let s = start .args .sheet .now in
-    let e : badTable s 4 (rowCount s) ≡ false = rw (c .before .before .before .before .before .u32-at .ensures .0) at (sym (c .before .bad-table .ensures) ∙ c .if5 .left) in
+    let e : badTable s 4 (rowCount s) ≡ false = rw (c .before .before .before .before .before .row-count .ensures) at (sym (c .before .bad-table .ensures) ∙ c .if5 .left) in
     sym (table-whole s (omega arith) (omega arith) (omega arith) (omega arith) ∙ rw (e, _⇒_))
 
 pub table-number-spec : {M : Type 1} → statement M
@@ -56,7 +56,7 @@ table-number-spec =
     tie.close
     (tie.spec
     returns
-    u32-at-requires
+    row-count-requires
     returns-2
     returns-3
     mul-if4

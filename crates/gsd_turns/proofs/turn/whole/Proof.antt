@@ -1,18 +1,26 @@
--- `gsd_turns::turn::whole` meets its contract: the words of the runs are summed run by run.
+-- `gsd_turns::turn::whole` meets its contract: the words of the extents are summed extent by extent.
 use borrow.Author.Needs.{needs}
-use Prim.Native.Nat.{_+_, _-_, _≤_}
+use Prim.Native.Nat.{_+_, _-_, _≤_, _<_}
 use mathlib.Core.Path.{_≡_, sym, _∙_, ap}
 use native.Mathlib.Omega.{arith}
-use Rattle.gsd_plan.proofs.Plans.{runs-inside, good-half}
+use Rattle.gsd_steps.specs.Numbers.{rowsIn, freshIn}
+use Rattle.gsd_steps.specs.Steps.{extentCount}
+use Rattle.gsd_steps.proofs.Steps.{good-half}
 use Rattle.gsd_turns.proofs.Count.{counted, counted-none, counted-more, counted-within, counted-all}
 use Rattle.gsd_turns.proofs.turn.whole.Statement.{statement}
 use Rattle.gsd_turns.proofs.turn.whole.Tie as tie
 
 abbrev Inv-loop : tie.InvT-loop
-Inv-loop plan count sum₀ r₀ sum r = (r ≤ count) × (sum ≡ counted plan r)
+Inv-loop sheet plan rows count sum₀ r₀ sum r = (r ≤ count) × (sum ≡ counted sheet plan r)
 
 abbrev μ-loop : tie.MeasureT-loop
-μ-loop plan count sum₀ r₀ sum r = count - r
+μ-loop sheet plan rows count sum₀ r₀ sum r = count - r
+
+shared-slice-read-rows : tie.Need-shared-slice-read-rows Inv-loop μ-loop
+shared-slice-read-rows c = search needs
+
+shared-slice-read-count : tie.Need-shared-slice-read-count Inv-loop μ-loop
+shared-slice-read-count c = search needs
 
 add-count : tie.Need-add-count Inv-loop μ-loop
 add-count c = search needs
@@ -24,43 +32,48 @@ mul-sum : tie.Need-mul-sum Inv-loop μ-loop
 mul-sum c = search needs
 
 loop-holds : tie.Need-loop-holds Inv-loop μ-loop
-loop-holds c = (search needs, sym (counted-none (c .args .t1)))
+loop-holds c =
+    let x = c .before .before .before .before .args in
+    (search needs, sym (counted-none (x .sheet .now) (x .plan .now)))
 
-run-at-requires : tie.Need-run-at-requires Inv-loop μ-loop
-run-at-requires c κs =
-    let start = c .before .before .before .before .before .before .before .before .before .before .before .before .before in
-    (search needs, (search needs, (omega arith, good-half _ _ _ _ (omega arith) (omega arith) (start .pre) (omega arith))))
+extent-at-requires : tie.Need-extent-at-requires Inv-loop μ-loop
+extent-at-requires c κs =
+    let x = c .before .before .before .before .before .before .args in
+    let ready = c .before .before .before .before .before .before .pre in
+    let inside : c .before .loop .r < extentCount (x .plan .now) = omega (arith, c .loop-test .taken) in
+    (ready .sound, (inside, good-half _ (x .sheet .now) (x .plan .now) _ (omega arith) (search needs) ready inside))
 
 add-sum : tie.Need-add-sum Inv-loop μ-loop
 add-sum c =
-    let p = c .before .before .before .before .before .before .before .before .before .before .before .before .before .before .args .t1 in
-    let r = c .before .before .before .before .before .before .before .before .before .before .before .before .before .loop .r in
-    let counted = c .before .before .before .before .before .before .before .before .before .before .before .before .before .loop .inv .1 in
-    let more = counted-more p r (c .run-at .result) (c .run-at .ensures) (runs-inside p r (omega arith)) in
-    omega (arith, counted, more, counted-within p (r + 1) (omega arith), c .before .before .before .before .before .before .before .before .before .before .before .before .before .before .pre .count)
+    let x = c .before .before .before .before .before .before .before .args in
+    let r = c .before .before .loop .r in
+    let here = c .extent-at .ensures in
+    let more = counted-more (x .sheet .now) (x .plan .now) r (c .extent-at .result) here (omega (arith, c .before .loop-test .taken)) in
+    let within = counted-within (x .sheet .now) (x .plan .now) (r + 1) (omega (arith, c .before .loop-test .taken)) in
+    omega (arith, c .before .before .loop .inv .1, more, within, c .before .before .before .before .before .before .before .pre .count)
 
 add-r : tie.Need-add-r Inv-loop μ-loop
 add-r c =
-    let loop-test = c .before .before .before .before .before .before .before .before .before .before .before .before .loop-test in
-    let start = c .before .before .before .before .before .before .before .before .before .before .before .before .before .before in
-    omega (arith, loop-test .taken, start .pre .rows, start .pre .fresh)
+    let sound = c .before .before .before .before .before .before .before .pre .sound in
+    omega (arith, c .before .loop-test .taken, sound .rows, sound .fresh)
 
 loop-less : tie.Need-loop-less Inv-loop μ-loop
 loop-less c = search needs
 
 loop-again : tie.Need-loop-again Inv-loop μ-loop
 loop-again c =
-    let p = c .before .before .before .before .before .before .before .before .before .before .before .before .before .before .args .t1 in
-    let r = c .before .before .before .before .before .before .before .before .before .before .before .before .before .loop .r in
-    let counted = c .before .before .before .before .before .before .before .before .before .before .before .before .before .loop .inv .1 in
-    let more = counted-more p r (c .run-at .result) (c .run-at .ensures) (runs-inside p r (omega arith)) in
-    (search needs, omega (arith, counted, more))
+    let x = c .before .before .before .before .before .before .before .args in
+    let r = c .before .before .loop .r in
+    let here = c .extent-at .ensures in
+    let more = counted-more (x .sheet .now) (x .plan .now) r (c .extent-at .result) here (omega (arith, c .before .loop-test .taken)) in
+    (search needs, omega (arith, c .before .before .loop .inv .1, more))
 
 returns : tie.Need-returns Inv-loop μ-loop
 returns c =
-    let p = c .before .before .args .t1 in
-    let done : c .before .loop .r ≡ 11 + p .fresh + p .rows = omega arith in
-    c .before .loop .inv .1 ∙ ap (counted p) done ∙ counted-all p
+    let sheet = c .before .before .before .before .before .before .args .sheet .now in
+    let p = c .before .before .before .before .before .before .args .plan .now in
+    let done : c .before .loop .r ≡ 11 + freshIn p + rowsIn p = omega (arith, c .loop-test .left, c .before .loop .inv .0) in
+    c .before .loop .inv .1 ∙ ap (counted sheet p) done ∙ counted-all sheet p
 
 pub whole-spec : {M : Type 1} → statement M
 whole-spec =
@@ -68,11 +81,13 @@ whole-spec =
     (tie.spec
     Inv-loop
     μ-loop
+    shared-slice-read-rows
+    shared-slice-read-count
     add-count
     add-count-2
     mul-sum
     loop-holds
-    run-at-requires
+    extent-at-requires
     add-sum
     add-r
     loop-less

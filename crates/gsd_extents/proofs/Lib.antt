@@ -1,0 +1,5 @@
+-- Laws of extents, their tasks and their stores.
+pub mod Words
+pub mod Tasks
+pub mod Extents
+pub mod OneStore

@@ -1,2 +1,0 @@
--- Laws of the plan's arrays, as the code fills them.
-pub mod Filling

@@ -1,2 +1,0 @@
--- What the plan's arrays hold.
-pub mod Filling

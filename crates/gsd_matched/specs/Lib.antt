@@ -1,0 +1,2 @@
+-- When a plan matches an append.
+pub mod Matches

@@ -1,0 +1,3 @@
+-- Laws of places found one after the other, and of doubling.
+pub mod Places
+pub mod Growing

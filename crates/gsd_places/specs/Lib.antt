@@ -1,0 +1,3 @@
+-- Where an append's parts go.
+pub mod Places
+pub mod Sites

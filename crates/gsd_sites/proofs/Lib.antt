@@ -1,3 +1,0 @@
--- Laws of the places, as the code finds them.
-pub mod Growing
-pub mod Laying

@@ -1,0 +1,2 @@
+-- Laws of a plan's list of extents.
+pub mod Steps
