@@ -1,5 +1,5 @@
 /*
- * dialmoth.h: read and append GSD 2.0 images that lie in memory.
+ * dialmoth.h: read and append GSD 2.0 and 2.1 images that lie in memory.
  *
  * An image is a whole slice of memory lent by the caller, from 256 to
  * 1,073,741,824 bytes; a file's content, or a region laid out beforehand that
@@ -41,7 +41,7 @@ extern "C" {
     R(1, DIALMOTH_SHORT_IMAGE, "image under 256 bytes")                                         \
     R(2, DIALMOTH_LONG_IMAGE, "image over 1,073,741,824 bytes")                                 \
     R(3, DIALMOTH_WRONG_MAGIC, "wrong magic")                                                   \
-    R(4, DIALMOTH_WRONG_VERSION, "version not 2.0")                                             \
+    R(4, DIALMOTH_WRONG_VERSION, "version not 2.0 or 2.1")                                      \
     R(5, DIALMOTH_UNCLOSED_TEXT, "application or schema has no zero byte")                      \
     R(6, DIALMOTH_INDEX_OUTSIDE, "index block starts below 256 or ends beyond the image")       \
     R(7, DIALMOTH_NAMES_OUTSIDE, "name block starts below 256 or ends beyond the image")        \
@@ -50,7 +50,7 @@ extern "C" {
     R(10, DIALMOTH_MANY_NAMES, "more than 1,024 names")                                         \
     R(11, DIALMOTH_EQUAL_NAMES, "two equal names")                                              \
     R(12, DIALMOTH_LOW_LOCATION, "an entry's location is negative, or below 256 and not 0")     \
-    R(13, DIALMOTH_UNKNOWN_TYPE, "an entry's type is not 1 to 10")                              \
+    R(13, DIALMOTH_UNKNOWN_TYPE, "an entry's type is not known in this version")                \
     R(14, DIALMOTH_UNKNOWN_ID, "an entry's id is not below the number of names")                \
     R(15, DIALMOTH_FRAME_ORDER,                                                                 \
       "first frame not 0, frame skipped, or (frame, id) not above the entry before")            \
@@ -60,7 +60,8 @@ extern "C" {
     R(21, DIALMOTH_UNALIGNED_BLOCK, "index or name location not a multiple of 8")               \
     R(22, DIALMOTH_ROW_COUNT, "sheet under 4 bytes, or its count is 0 or above 64")             \
     R(23, DIALMOTH_SHORT_TABLE, "sheet shorter than its table")                                 \
-    R(24, DIALMOTH_BAD_ROW, "a row with an unknown type, name length 0 or spare bytes not 0")   \
+    R(24, DIALMOTH_BAD_ROW,                                                                     \
+      "a row with a type not known in this version, name length 0 or spare bytes not 0")        \
     R(25, DIALMOTH_SHEET_LENGTH, "sheet's length is not exactly table plus bodies")             \
     R(26, DIALMOTH_ZERO_IN_NAME, "a name of the sheet holds a zero byte")                       \
     R(27, DIALMOTH_NAME_TWICE, "two rows of the sheet have one name")                           \
@@ -113,7 +114,8 @@ enum dialmoth_type {
     DIALMOTH_I32 = 7,
     DIALMOTH_I64 = 8,
     DIALMOTH_FLOAT = 9,
-    DIALMOTH_DOUBLE = 10
+    DIALMOTH_DOUBLE = 10,
+    DIALMOTH_CHARACTER = 11 /* from 2.1 on */
 };
 
 /* Kinds of an element, and what its bits are. */
@@ -164,14 +166,16 @@ uint64_t dialmoth_chunk(const uint8_t *image, size_t image_length,
 
 /* Element k of a chunk, from 0, M the fast index: k = i * M + j for i below N
  * and j below M.
- * out: its kind (enum dialmoth_kind) and its exact bits. */
+ * out: its kind (enum dialmoth_kind; a character is unsigned) and its exact
+ * bits. */
 uint64_t dialmoth_element(const uint8_t *image, size_t image_length,
                           uint64_t frame, const uint8_t *name,
                           size_t name_length, uint64_t k, uint64_t out[2]);
 
-/* Makes a fresh image with no frame. 0 slots stand for 64, 0 segments for 16;
- * it needs 256 + 32 * slots + 64 * segments bytes, and those behind stay as
- * they are. The texts have at most 63 bytes and need no closing zero.
+/* Makes a fresh image of version 2.1 with no frame. 0 slots stand for 64, 0
+ * segments for 16; it needs 256 + 32 * slots + 64 * segments bytes, and those
+ * behind stay as they are. The texts have at most 63 bytes and need no closing
+ * zero.
  * Ask for few slots and segments: every append clears those that are free, and
  * one that needs more moves them by itself to a block at least twice as long. */
 uint64_t dialmoth_create(uint8_t *image, size_t image_length,
@@ -185,6 +189,8 @@ uint64_t dialmoth_create(uint8_t *image, size_t image_length,
  * The frame is there once the last store is made, and not before: after a stop
  * every older frame reads as it did, and the same append may be made again. (A
  * block that was moved before the stop stays moved, so it may take more room.)
+ * The image keeps its version: one of 2.0 refuses a row of DIALMOTH_CHARACTER
+ * with DIALMOTH_BAD_ROW, one of 2.1 takes it.
  * A stop is this limit, seen as the call ends: within a call the compiler may
  * join or reorder stores, so a cut of power inside it is not covered.
  * out: stores done, stores of the whole append. The frame is there exactly when

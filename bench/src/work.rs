@@ -1,7 +1,7 @@
 //! What is timed: a month's index, many names, a day of frames, one large chunk.
 
 use crate::fingerprint;
-use differential::images::{blank, lawful_rows, put_names, put_slots, sheet, Row, Slot};
+use differential::images::{blank, lawful_rows, put_names, put_slots, sheet, version, Row, Slot};
 use differential::library::{Create, Library, Reference};
 use std::hint::black_box;
 
@@ -123,7 +123,7 @@ impl Stored {
         let mut out = [0; 2];
         assert_eq!(library.append(image, sheet, 0, &mut out), 0);
         self.stores += out[1];
-        let rows = lawful_rows(sheet).unwrap();
+        let rows = lawful_rows(sheet, version(image)).unwrap();
         self.data += rows.iter().map(|row| row.data.len() as u64).sum::<u64>();
     }
 }

@@ -1,4 +1,4 @@
-//! Safe calls of libdialmoth.a, which reads and appends GSD 2.0 images that lie in memory.
+//! Safe calls of libdialmoth.a, which reads and appends GSD 2.0 and 2.1 images that lie in memory.
 //!
 //! ```
 //! use dialmoth::{Element, Row, Type};
@@ -41,10 +41,12 @@ pub enum Type {
     I64 = 8,
     Float = 9,
     Double = 10,
+    /// From 2.1 on: an image of 2.0 has none and takes none.
+    Character = 11,
 }
 
 impl Type {
-    const ALL: [Type; 10] = [
+    const ALL: [Type; 11] = [
         Type::U8,
         Type::U16,
         Type::U32,
@@ -55,12 +57,13 @@ impl Type {
         Type::I64,
         Type::Float,
         Type::Double,
+        Type::Character,
     ];
 
     /// Bytes of one element.
     pub fn size(self) -> u64 {
         match self {
-            Type::U8 | Type::I8 => 1,
+            Type::U8 | Type::I8 | Type::Character => 1,
             Type::U16 | Type::I16 => 2,
             Type::U32 | Type::I32 | Type::Float => 4,
             Type::U64 | Type::I64 | Type::Double => 8,
@@ -103,7 +106,8 @@ impl Entry {
     }
 }
 
-/// An element of a chunk. Floats are equal here when their bits are.
+/// An element of a chunk; a character is an unsigned number. Floats are equal here when their bits
+/// are.
 #[derive(Clone, Copy, Debug)]
 pub enum Element {
     Unsigned(u64),
@@ -206,8 +210,8 @@ pub fn element(image: &[u8], frame: u64, name: &[u8], k: u64) -> Result<Element,
     })
 }
 
-/// Makes a fresh image; 0 slots stand for 64, 0 segments for 16. Every append clears those that are
-/// free, and moves them by itself where it needs more.
+/// Makes a fresh image of version 2.1; 0 slots stand for 64, 0 segments for 16. Every append clears
+/// those that are free, and moves them by itself where it needs more.
 pub fn create(
     image: &mut [u8],
     application: &[u8],
@@ -232,7 +236,8 @@ pub fn create(
     Ok(())
 }
 
-/// Makes the first `limit` stores of the append of a sheet's chunks as one new frame.
+/// Makes the first `limit` stores of the append of a sheet's chunks as one new frame. The image keeps
+/// its version, and one of 2.0 refuses a character ([`Refusal::BAD_ROW`]).
 pub fn append(image: &mut [u8], sheet: &[u8], limit: u64) -> Result<Stores, Refusal> {
     let [done, whole] = answer(|out| unsafe {
         let image = (image.as_mut_ptr(), image.len());
@@ -292,7 +297,23 @@ pub fn sheet(rows: &[Row]) -> alloc::vec::Vec<u8> {
 
 #[cfg(test)]
 mod tests {
+    extern crate std;
+
     use super::{put_sheet, Row, Type};
+    use std::format;
+
+    const HEADER: &str = include_str!("../../include/dialmoth.h");
+
+    #[test]
+    fn types_are_those_of_the_header() {
+        let (_, types) = HEADER.split_once("enum dialmoth_type {").unwrap();
+        let (types, _) = types.split_once("};").unwrap();
+        assert_eq!(types.matches("DIALMOTH_").count(), Type::ALL.len());
+        for (line, kind) in types.trim().lines().zip(Type::ALL) {
+            let named = format!("DIALMOTH_{} = {}", format!("{kind:?}").to_uppercase(), kind as u8);
+            assert_eq!(line.trim().split([',', '/']).next().unwrap().trim(), named);
+        }
+    }
 
     #[test]
     fn sheets_are_written_to_slices_that_hold_them() {

@@ -5,13 +5,17 @@ them, stdout their listings, each under its file's name.
 The last line is 'N passed, M failed'.
 
 Conditions, for what is more than GSD allows cannot be read by it: names in UTF-8, M at least 1, at
-least one slot and one segment, flags 0. An image whose last append was stopped is for this
-library's own readers only, until the clearing stores of the next append are made: the C reader
+least one slot and one segment, flags 0. Characters it reads as one text, so they are UTF-8 with N at
+least 1 and M 1, and gsd.fl drops zeros at their end; it writes ASCII alone. A library that knows no
+characters, as gsd 2.7.0, refuses the file or the chunk. An image whose last append was stopped is for
+this library's own readers only, until the clearing stores of the next append are made: the C reader
 finds the list's end by halving, and looks at slots behind it.
 """
 
+import contextlib
 import os
 import random
+import shutil
 import struct
 import subprocess
 import sys
@@ -21,12 +25,19 @@ import traceback
 import numpy
 import gsd.fl
 import gsd.pygsd
+import gsd.version
 
+GSD = getattr(gsd, "__version__", None) or gsd.version.version
+READ, WRITE, GROW = ("rb", "wb", "rb+") if GSD.startswith("2.") else ("r", "w", "r+")
+# numpy has no type of characters: one byte of text stands for it.
 TYPES = {
     1: "uint8", 2: "uint16", 3: "uint32", 4: "uint64", 5: "int8",
-    6: "int16", 7: "int32", 8: "int64", 9: "float32", 10: "float64",
+    6: "int16", 7: "int32", 8: "int64", 9: "float32", 10: "float64", 11: "S1",
 }
 NUMBERS = {numpy.dtype(name): number for number, name in TYPES.items()}
+CHARACTERS = 11 in gsd.pygsd.gsd_type_mapping
+ASCII = "ab 7~\n" if CHARACTERS else ""
+LETTERS = ASCII + "éµ温" if CHARACTERS else ""
 NAMES = ["a", "probe", "heater", "fan", "position", "particles/position", "größe/µ", "温度",
          "x" * 63, "y" * 64, "z" * 200]
 ALL = 2**64 - 1
@@ -67,7 +78,8 @@ class Peer:
             frame, n, location, m, name, kind, _, start, length = map(int, words[:9])
             assert start == location
             data = numpy.frombuffer(image[start:start + length], TYPES[kind]).reshape(n, m)
-            for element, word in zip(data.flat, words[9:]):
+            elements = data.view("uint8") if kind == 11 else data
+            for element, word in zip(elements.flat, words[9:]):
                 assert same_element(element, kind, word), (line, element)
             assert len(words) - 9 == min(64, n * m)
             chunks[frame][listed[name]] = data
@@ -76,7 +88,7 @@ class Peer:
 
 def same_element(element, kind, word):
     """Whether 'kind:bits' is the element as the real library's type has it."""
-    expected = 1 if kind <= 4 else 2 if kind <= 8 else kind - 6
+    expected = 1 if kind <= 4 or kind == 11 else 2 if kind <= 8 else kind - 6
     answered, bits = map(int, word.split(":"))
     if expected <= 2:
         return (answered, bits) == (expected, int(element) % 2**64)
@@ -93,11 +105,23 @@ def sheet(frame):
     return table + bodies
 
 
-def random_frame(rng, known=()):
-    """Some chunks; floats of all kinds, empty ones too."""
+def characters(raw, columns=1):
+    return numpy.frombuffer(raw, TYPES[11]).reshape(-1, columns)
+
+
+def random_text(rng, letters):
+    return characters("".join(rng.choices(letters, k=rng.randint(1, 9))).encode())
+
+
+def random_frame(rng, letters=""):
+    """Some chunks; floats of all kinds, empty ones too, and where letters are given characters."""
     frame = {}
-    for name in rng.sample([*dict.fromkeys([*known, *NAMES])], rng.randint(1, 4)):
-        dtype = numpy.dtype(TYPES[rng.randint(1, 10)])
+    for name in rng.sample(NAMES, rng.randint(1, 4)):
+        kind = rng.randint(1, 11 if letters else 10)
+        if kind == 11:
+            frame[name] = random_text(rng, letters)
+            continue
+        dtype = numpy.dtype(TYPES[kind])
         shape = (rng.choice([0, 1, 1, 2, 3, 7]), rng.choice([1, 1, 1, 2, 3, 4]))
         raw = rng.randbytes(shape[0] * shape[1] * dtype.itemsize)
         frame[name] = numpy.frombuffer(raw, dtype).reshape(shape)
@@ -105,7 +129,9 @@ def random_frame(rng, known=()):
 
 
 def same(found, data):
-    """Whether an array that GSD read is what was written, in type, shape and every byte."""
+    """Whether what GSD read is what was written, in type, shape and every byte."""
+    if isinstance(found, str):
+        found = characters(found.encode())
     n, m = data.shape
     shapes = [(n, m)] if m > 1 else [(n, 1), (n,)]
     if data.size == 0:
@@ -113,15 +139,38 @@ def same(found, data):
     return (found.dtype, found.tobytes()) == (data.dtype, data.tobytes()) and found.shape in shapes
 
 
-def real_reads(path, frames, names=None):
-    """Holds both readers of the real library to the frames."""
-    with gsd.fl.open(path, "rb") as file:
-        assert file.gsd_version == (2, 0)
-        if names is not None:
-            assert file.find_matching_chunk_names("") == names
-        hold(file, frames)
-    with gsd.pygsd.GSDFile(open(path, "rb")) as file:
-        hold(file, frames)
+def readers(path):
+    """Both readers of the real library, yet to open the file."""
+    return [lambda: gsd.fl.open(path, READ), lambda: gsd.pygsd.GSDFile(open(path, "rb"))]
+
+
+def real_reads(path, frames, layer, names=None):
+    """Holds both readers of the real library to the frames and the version of the file layer."""
+    for reader in readers(path):
+        with reader() as file:
+            assert file.gsd_version == layer, (file.gsd_version, layer)
+            if names is not None:
+                assert file.find_matching_chunk_names("") == names
+            hold(file, frames)
+
+
+def corrupt(reader):
+    try:
+        reader().close()
+    except RuntimeError as error:
+        assert "Corrupt GSD file" in str(error), error
+        return True
+    return False
+
+
+def real_refuses(path, frames):
+    """A library that knows no characters takes a file with some for a corrupt one; gsd.fl looks at
+    few entries as it opens, and where it meets none it reads the file without them."""
+    fl, pygsd = readers(path)
+    assert corrupt(pygsd)
+    if not corrupt(fl):
+        with fl() as file:
+            hold(file, frames)
 
 
 def hold(file, frames):
@@ -131,8 +180,13 @@ def hold(file, frames):
         for name in asked:
             assert file.chunk_exists(number, name) == (name in frame), (number, name)
             if name in frame:
-                found = file.read_chunk(number, name)
-                assert same(found, frame[name]), (number, name, found, frame[name])
+                data = frame[name]
+                try:
+                    found = file.read_chunk(number, name)
+                except ValueError:
+                    assert NUMBERS[data.dtype] == 11 and not CHARACTERS, (number, name)
+                else:
+                    assert same(found, data), (number, name, found, data)
 
 
 def ours_reads(peer, path, frames, names=None):
@@ -151,14 +205,39 @@ def header(path):
         return struct.unpack("<4Q", file.read(40)[8:])
 
 
+def layer_of(path):
+    """Major and minor number of the file layer."""
+    with open(path, "rb") as file:
+        minor, major = struct.unpack("<2H", file.read(48)[44:])
+    return major, minor
+
+
+def make_older(path):
+    """Turns a file of 2.1 into one of 2.0."""
+    with open(path, "r+b") as file:
+        file.seek(44)
+        file.write(b"\0")
+
+
+def create(peer, rng, path, length, slots, segments, layers=((2, 0), (2, 1))):
+    """A fresh image, which is of 2.1, or the same of 2.0; and the letters of its characters."""
+    assert peer.create(path, length, slots, segments) == 0
+    assert layer_of(path) == (2, 1)
+    if rng.choice(layers) == (2, 1):
+        return LETTERS
+    make_older(path)
+    return ""
+
+
 def grow(peer, rng, path, stops):
-    """An image after whole appends, stopped ones among them; its frames."""
+    """An image after whole appends, stopped ones among them; its frames and the layer it began with."""
     slots, segments = rng.choice([1, 2, 4, 64]), rng.choice([1, 2, 16])
     length = 256 + 32 * slots + 64 * segments + rng.choice([50, 3000, 3000, 60_000])
-    assert peer.create(path, length, slots, segments) == 0
+    letters = create(peer, rng, path, length, slots, segments)
+    layer = layer_of(path)
     frames = []
     for _ in range(rng.randint(1, 8)):
-        frame = random_frame(rng)
+        frame = random_frame(rng, letters)
         number, _, whole = peer.append(path, frame, 0)
         if number == 29:
             break
@@ -168,7 +247,7 @@ def grow(peer, rng, path, stops):
             assert peer.append(path, frame, limit) == (0, limit, whole)
             if rng.random() < 0.5:
                 # Another frame after the restart: the stopped one leaves nothing behind.
-                frame = random_frame(rng)
+                frame = random_frame(rng, letters)
         number, done, whole = peer.append(path, frame)
         if number == 0:
             assert done == whole
@@ -176,8 +255,8 @@ def grow(peer, rng, path, stops):
         else:
             # Names of the stopped append are in the way; without a whole append it is not at rest.
             assert number == 29
-            return None
-    return frames
+            return None, layer
+    return frames, layer
 
 
 def clears(path, entries, names):
@@ -187,27 +266,29 @@ def clears(path, entries, names):
     return 4 * (slots - entries) + (64 * segments - end // 8 * 8) // 8
 
 
-def write_real(rng, path):
-    """A file that the real library writes; its frames, or None where one holds no chunk."""
-    frames = []
-    with gsd.fl.open(path, "wb", application="real", schema="interop", schema_version=[1, 2]) as file:
-        for _ in range(rng.randint(0, 40)):
-            frame = random_frame(rng)
-            for name, data in frame.items():
-                file.write_chunk(name, data[:, 0] if data.shape[1] == 1 else data)
-            file.end_frame()
-            frames.append(frame)
+def write_frames(file, rng, count):
+    frames = [random_frame(rng, ASCII) for _ in range(count)]
+    for frame in frames:
+        for name, data in frame.items():
+            if NUMBERS[data.dtype] == 11:
+                data = data.tobytes().decode()
+            elif data.shape[1] == 1:
+                data = data[:, 0]
+            file.write_chunk(name, data)
+        file.end_frame()
     return frames
 
 
-def append_real(rng, path, frames):
-    with gsd.fl.open(path, "rb+") as file:
-        for _ in range(rng.randint(1, 5)):
-            frame = random_frame(rng)
-            for name, data in frame.items():
-                file.write_chunk(name, data[:, 0] if data.shape[1] == 1 else data)
-            file.end_frame()
-            frames.append(frame)
+def write_real(rng, path, count):
+    """A file that the real library writes; its frames."""
+    texts = {"application": "real", "schema": "interop", "schema_version": [1, 2]}
+    with gsd.fl.open(path, WRITE, **texts) as file:
+        return write_frames(file, rng, count)
+
+
+def append_real(rng, path):
+    with gsd.fl.open(path, GROW) as file:
+        return write_frames(file, rng, rng.randint(1, 5))
 
 
 def first_lines(path):
@@ -218,8 +299,9 @@ def first_lines(path):
 
 
 class Tests:
-    def __init__(self, peer, folder, seed):
+    def __init__(self, peer, folder, seed, layer):
         self.peer, self.folder, self.seed = peer, folder, seed
+        self.layer = layer  # of the files that the real library writes
         self.passed = self.failed = 0
 
     def test(self, what, count, body):
@@ -238,38 +320,39 @@ class Tests:
         print(f"{what}: {self.passed - before} of {count}")
 
     def whole(self, rng, path):
-        frames = grow(self.peer, rng, path, stops=False)
-        real_reads(path, frames, self.peer.read(path)[0])
+        frames, layer = grow(self.peer, rng, path, stops=False)
+        real_reads(path, frames, layer, self.peer.read(path)[0])
         ours_reads(self.peer, path, frames)
 
     def stopped(self, rng, path):
-        frames = grow(self.peer, rng, path, stops=True)
+        frames, layer = grow(self.peer, rng, path, stops=True)
         if frames is not None:
-            real_reads(path, frames, self.peer.read(path)[0])
+            real_reads(path, frames, layer, self.peer.read(path)[0])
             ours_reads(self.peer, path, frames)
 
     def cleared(self, rng, path):
         """Stopped anywhere, then only the clearing stores of the next append."""
-        self.peer.create(path, 20_000, rng.choice([1, 2, 64]), rng.choice([1, 16]))
-        frames = [random_frame(rng) for _ in range(3)]
+        letters = create(self.peer, rng, path, 20_000, rng.choice([1, 2, 64]), rng.choice([1, 16]))
+        layer = layer_of(path)
+        frames = [random_frame(rng, letters) for _ in range(3)]
         for frame in frames:
             assert self.peer.append(path, frame)[0] == 0
-        frame = random_frame(rng)
+        frame = random_frame(rng, letters)
         whole = self.peer.append(path, frame, 0)[2]
         self.peer.append(path, frame, rng.randrange(whole - 8, whole) if whole > 8 else whole - 1)
         names, _ = self.peer.read(path)
         entries = sum(map(len, frames))
-        self.peer.append(path, random_frame(rng), clears(path, entries, names))
-        real_reads(path, frames, names)
+        self.peer.append(path, random_frame(rng, letters), clears(path, entries, names))
+        real_reads(path, frames, layer, names)
         ours_reads(self.peer, path, frames, names)
 
     def left_stopped(self, rng, path):
         """Stopped anywhere and left so: gsd.pygsd goes slot by slot, and finds the list's end."""
-        self.peer.create(path, 20_000, rng.choice([1, 2, 64]), rng.choice([1, 16]))
-        frames = [random_frame(rng) for _ in range(rng.randint(1, 3))]
+        letters = create(self.peer, rng, path, 20_000, rng.choice([1, 2, 64]), rng.choice([1, 16]))
+        frames = [random_frame(rng, letters) for _ in range(rng.randint(1, 3))]
         for frame in frames:
             assert self.peer.append(path, frame)[0] == 0
-        frame = random_frame(rng)
+        frame = random_frame(rng, letters)
         whole = self.peer.append(path, frame, 0)[2]
         limit = rng.choice([rng.randrange(whole), whole - 1 - rng.randrange(min(8, whole))])
         assert self.peer.append(path, frame, limit) == (0, limit, whole)
@@ -287,74 +370,145 @@ class Tests:
         both = {"probe": probe, "heater": heater}
         assert self.peer.append(path, both, limit) == (0, limit, 43)
         ours_reads(self.peer, path, [{"probe": probe}])
-        with gsd.fl.open(path, "rb") as file:
+        with gsd.fl.open(path, READ) as file:
             shown = [name for name in both if file.chunk_exists(1, name)]
             assert (file.nframes, shown) == (2, ["heater"]), (file.nframes, shown)
 
+    def texts(self, rng, path):
+        """Characters are known in 2.1 alone, and read by a library that knows them."""
+        create(self.peer, rng, path, 5_000, 4, 1, layers=[(2, 1)])
+        frames = [random_frame(rng) | {"text": random_text(rng, "ab 7~\né温")} for _ in range(2)]
+        for frame in frames:
+            assert self.peer.append(path, frame)[0] == 0
+        ours_reads(self.peer, path, frames)
+        if CHARACTERS:
+            real_reads(path, frames, (2, 1))
+        else:
+            real_refuses(path, frames)
+        make_older(path)
+        assert self.peer.read(path) == 13
+        create(self.peer, rng, path, 5_000, 4, 1, layers=[(2, 0)])
+        before = open(path, "rb").read()
+        assert self.peer.append(path, frames[0]) == (24, 0, 0)
+        assert open(path, "rb").read() == before
+
+    def odd_texts(self, rng, path):
+        """Characters that are no text for the real library: ours reads them, and a reader of the
+        real one that has an answer has their bytes, but for zeros at the end."""
+        create(self.peer, rng, path, 5_000, 4, 1, layers=[(2, 1)])
+        frame = {
+            "not UTF-8": characters(bytes([200, 255, 128])),
+            "empty": characters(b""),
+            "columns": characters(b"abcdef", 3),
+            "zero at the end": characters(b"ab\0"),
+        }
+        assert self.peer.append(path, frame)[0] == 0
+        ours_reads(self.peer, path, [frame])
+        if not CHARACTERS:
+            real_refuses(path, [frame])
+            return
+        for reader in readers(path):
+            with reader() as file:
+                for name, data in frame.items():
+                    with contextlib.suppress(AttributeError, ValueError):
+                        found = file.read_chunk(0, name)
+                        raw = found.encode() if isinstance(found, str) else found.tobytes()
+                        assert raw in (data.tobytes(), data.tobytes().rstrip(b"\0")), (name, found)
+
     def real_file(self, rng, path):
-        frames = write_real(rng, path)
-        with gsd.fl.open(path, "rb") as file:
+        frames = write_real(rng, path, rng.randint(0, 40))
+        assert layer_of(path) == self.layer
+        with gsd.fl.open(path, READ) as file:
             names = file.find_matching_chunk_names("")
         ours_reads(self.peer, path, frames, names)
 
     def real_grows_ours(self, rng, path):
-        """The real library appends to our image at rest, and both read all of it."""
-        self.peer.create(path, 10_000, 64, 16)
-        frames = [random_frame(rng) for _ in range(rng.randint(1, 5))]
+        """The real library appends to our image at rest, and both read all of it. It is then of the
+        library's layer, if that is newer."""
+        letters = create(self.peer, rng, path, 10_000, 64, 16)
+        layer = layer_of(path)
+        frames = [random_frame(rng, letters) for _ in range(rng.randint(1, 5))]
         for frame in frames:
             assert self.peer.append(path, frame)[0] == 0
-        append_real(rng, path, frames)
+        frames += append_real(rng, path)
         ours_reads(self.peer, path, frames)
-        real_reads(path, frames)
+        real_reads(path, frames, max(layer, self.layer))
 
     def ours_grows_real(self, rng, path):
-        """We append to the real library's file, with room behind it, and both read all of it."""
-        frames = write_real(rng, path)
+        """We append to the real library's file, and both read all of it."""
+        frames = write_real(rng, path, rng.randint(0, 40))
+        self.grown(rng, path, frames)
+
+    def grown(self, rng, path, frames):
+        """We append to a file with room behind it: it stays of its layer."""
+        layer = layer_of(path)
         with open(path, "ab") as file:
-            file.write(bytes(20_000))
-        frame = random_frame(rng)
+            file.write(bytes(100_000))
+        frame = random_frame(rng, LETTERS if layer == (2, 1) else "")
         number, done, whole = self.peer.append(path, frame)
         index, _, names, _ = header(path)
         if index % 8 or names % 8:
             assert number == 21
         else:
             assert (number, done) == (0, whole)
-            frames.append(frame)
+            frames = [*frames, frame]
         ours_reads(self.peer, path, frames)
-        real_reads(path, frames)
+        real_reads(path, frames, layer)
 
-    def stored(self, path, first):
-        """A stored file: what both read is the same, or it is refused as its listing's first line says."""
+    def stored(self, rng, path, stored, first):
+        """A stored file: what both read is the same, also when it has grown, or it is refused as its
+        listing's first line says."""
+        shutil.copyfile(stored, path)
         found = self.peer.read(path)
         if isinstance(found, int):
             assert found in (14, 15) and first == f"refused {found}", found
             return
+        names, frames = found
         assert first.startswith("too long" if os.path.getsize(path) > 65_536 else "frames ")
-        with gsd.fl.open(path, "rb") as file:
-            # Frames without a chunk behind the last one are not told from no frame at all.
-            assert file.find_matching_chunk_names("") == found[0]
-        real_reads(path, found[1], found[0])
+        if any(NUMBERS[data.dtype] == 11 for frame in frames for data in frame.values()):
+            assert layer_of(path) == (2, 1)
+            if not CHARACTERS:
+                print(f"gsd {GSD} does not know characters, which {os.path.basename(stored)} has")
+                real_refuses(path, frames)
+                return
+        # Frames without a chunk behind the last one are not told from no frame at all.
+        real_reads(path, frames, layer_of(path), names)
+        self.grown(rng, path, frames)
+
+
+def stored_files(folder):
+    """The stored files, as "NAME.gsd" or "2.1/NAME.gsd"."""
+    for inner in ["", "2.1/"]:
+        for name in sorted(os.listdir(os.path.join(folder, inner))):
+            if name.endswith(".gsd"):
+                yield inner + name
 
 
 def main():
     program, files = sys.argv[1:3]
     seed = sys.argv[3] if len(sys.argv) > 3 else "1"
-    print(f"gsd {gsd.__version__}, numpy {numpy.__version__}")
     with tempfile.TemporaryDirectory() as folder:
-        tests = Tests(Peer(program, folder), folder, seed)
+        fresh = os.path.join(folder, "fresh.gsd")
+        write_real(random.Random(seed), fresh, 0)
+        layer = layer_of(fresh)
+        print(f"gsd {GSD}, which writes layer {layer[0]}.{layer[1]} and",
+              "knows" if CHARACTERS else "does not know", f"characters; numpy {numpy.__version__}")
+        tests = Tests(Peer(program, folder), folder, seed, layer)
         tests.test("ours after whole appends, read by gsd.fl and gsd.pygsd", 120, tests.whole)
         tests.test("ours after stops and whole appends", 120, tests.stopped)
         tests.test("ours after a stop and clearing stores", 60, tests.cleared)
         tests.test("ours left after a stop, read by gsd.pygsd", 60, tests.left_stopped)
         tests.test("ours left after a stop shows half a frame in gsd.fl", 1, tests.half_a_frame)
+        refused = "" if CHARACTERS else ", which are refused"
+        tests.test("ours with characters" + refused, 30, tests.texts)
+        tests.test("ours with characters that are no text" + refused, 1, tests.odd_texts)
         tests.test("files of gsd.fl, read by ours", 60, tests.real_file)
         tests.test("ours, grown by gsd.fl", 60, tests.real_grows_ours)
         tests.test("files of gsd.fl, grown by ours", 60, tests.ours_grows_real)
         listed = first_lines(os.path.join(files, "stdout"))
-        for name in sorted(os.listdir(os.path.join(files, "data"))):
-            if name.endswith(".gsd"):
-                path = os.path.join(files, "data", name)
-                tests.test(f"stored {name}", 1, lambda rng, _: tests.stored(path, listed[name]))
+        for name in stored_files(os.path.join(files, "data")):
+            stored, first = os.path.join(files, "data", name), listed[name]
+            tests.test(f"stored {name}", 1, lambda rng, path: tests.stored(rng, path, stored, first))
     print(f"{tests.passed} passed, {tests.failed} failed")
     return 1 if tests.failed else 0
 

@@ -31,7 +31,7 @@ use Rattle.gsd_turns.specs.Turns.{ahead, TurnSays}
 
 accepted-exact : (x sheet : List ℕ) → appendTest x sheet ≡ 0 → Exact sheet
 unfolding appendTest
-accepted-exact x sheet h = accepted sheet (both _ _ (both _ _ (both _ _ h .1) .1) .0) .exact
+accepted-exact x sheet h = accepted _ sheet (both _ _ (both _ _ (both _ _ h .1) .1) .0) .exact
 
 -- no slice is longer than half
 pub ready-half : (n : ℕ) (sheet p : List ℕ) → n ≤ half → Ready n sheet p → Ready half sheet p

@@ -1,10 +1,10 @@
-// Bytes of a slice: little-endian numbers read and stored, parts compared, zeros found and written, the magic, the types' sizes.
+// Bytes of a slice: little-endian numbers read and stored, parts compared, zeros found and written, the magic, the types.
 ghost use mathlib.Core.Path.{_≡_};
 ghost use Prim.Native.Nat.{_+_, _-_, _*_, _≤_, _<_};
 ghost use lib.ListN.{length, take};
 ghost use Rattle.gsd_format.specs.Bytes.{le, leBytes, part, same, zeros, stored};
 ghost use Rattle.gsd_format.specs.Header.{magic};
-ghost use Rattle.gsd_format.specs.Types.{sizeOf};
+ghost use Rattle.gsd_format.specs.Types.{sizeOf, lastType, known};
 
 mod scan;
 
@@ -140,7 +140,7 @@ pub fn put_text(s: &mut [u8], at: usize, t: &[u8])
 }
 
 // The format's numbers: the bytes of the header, of a slot of the index and of a segment of the name list; the most names, and
-// the bytes of the longest image; GSD 2.0.
+// the bytes of the longest image; GSD 2.0 and 2.1.
 pub const HEADER_SIZE: u64 = 256;
 
 pub const SLOT_SIZE: u64 = 32;
@@ -151,7 +151,9 @@ pub const MOST_NAMES: usize = 1024;
 
 pub const GREATEST_LENGTH: usize = 1073741824;
 
-pub const VERSION: u64 = 0x00020000;
+pub const VERSION_2_0: u64 = 0x00020000;
+
+pub const VERSION_2_1: u64 = 0x00020001;
 
 // Places in the header, as specs/Header.antt of gsd_format has them, and the bytes of application and of schema.
 pub const INDEX_PLACE: usize = 8;
@@ -215,16 +217,38 @@ pub const FLOAT: u8 = 9;
 
 pub const DOUBLE: u8 = 10;
 
-// The bytes of one element of a type, 0 for an unknown type.
+pub const CHARACTER: u8 = 11;
+
+// The bytes of one element of a type, 0 where no version has it.
 pub fn size_of(kind: u8) -> u64
     ensures answer { λ r. ⌜ r ≡ sizeOf kind ⌝ }
     ensures bound { λ r. ⌜ r ≤ 8 ⌝ }
 {
     match kind {
-        UINT8 | INT8 => 1,
+        UINT8 | INT8 | CHARACTER => 1,
         UINT16 | INT16 => 2,
         UINT32 | INT32 | FLOAT => 4,
         UINT64 | INT64 | DOUBLE => 8,
         _ => 0,
     }
+}
+
+// The last type of a version.
+fn last_type(version: u64) -> u8
+    ensures { λ r. ⌜ r ≡ lastType version ⌝ }
+{
+    if version == VERSION_2_1 {
+        return CHARACTER;
+    }
+    DOUBLE
+}
+
+// Has the version this type?
+pub fn known(version: u64, kind: u8) -> bool
+    ensures { λ r. ⌜ r ≡ known version kind ⌝ }
+{
+    if kind == 0 {
+        return false;
+    }
+    kind <= last_type(version)
 }

@@ -23,7 +23,7 @@ one-byte img at = omega arith
 
 module _ (img : List ℕ) (e : Entry) (held : Held img e) where
   pub few-elements : e .n * e .m ≤ greatestLength
-  few-elements = omega (arith, le-mul-of-pos-right (e .n * e .m) (held .typed), held .within, held .short)
+  few-elements = omega (arith, le-mul-of-pos-right (e .n * e .m) (held .sized), held .within, held .short)
 
   pub element-within : (k size : ℕ) → k < e .n * e .m → size ≡ sizeOf (e .kind) → e .location + k * size + size ≤ length img
   element-within k size h q = rw q (omega (arith, mul-le-mul-right (sizeOf (e .kind)) h, held .within))

@@ -6,8 +6,8 @@ use Rattle.gsd_format.specs.declared.Entry.{Entry}
 use Rattle.gsd_format.specs.Types.{sizeOf, chunkSize}
 use Rattle.gsd_format.specs.Header.{greatestLength}
 
--- an entry of a known type whose chunk lies in the image
+-- an entry whose type has a size, and whose chunk lies in the image
 pub record Held (img : List ℕ) (e : Entry) : Type 0 where
-  pub typed : 0 < sizeOf (e .kind)
+  pub sized : 0 < sizeOf (e .kind)
   pub within : e .location + chunkSize e ≤ length img
   pub short : length img ≤ greatestLength

@@ -1,5 +1,12 @@
 // Elements by their type: the number of a pattern of bits, and the bits of an element in the image. It is leaf code: its
 // functions have a `requires`.
+use gsd_bytes::DOUBLE;
+use gsd_bytes::FLOAT;
+use gsd_bytes::INT8;
+use gsd_bytes::INT16;
+use gsd_bytes::INT32;
+use gsd_bytes::INT64;
+use gsd_bytes::UINT64;
 use gsd_bytes::size_of;
 use gsd_bytes::u16_at;
 use gsd_bytes::u32_at;
@@ -74,13 +81,13 @@ fn half_of(kind: u8) -> u64
     ensures bound { λ r. ⌜ r ≤ 9223372036854775808 ⌝ }
     ensures halves { λ r. ⌜ 2 * r ≡ 256 ^ sizeOf kind ⌝ }
 {
-    if kind == 5 {
+    if kind == INT8 {
         return 0x80;
     }
-    if kind == 6 {
+    if kind == INT16 {
         return 0x8000;
     }
-    if kind == 7 {
+    if kind == INT32 {
         return 0x8000_0000;
     }
     0x8000_0000_0000_0000
@@ -89,18 +96,18 @@ fn half_of(kind: u8) -> u64
 // The element of a type with these bits.
 fn element_of(kind: u8, bits: u64) -> Element
     requires low { ⌜ 0 < kind ⌝ }
-    requires high { ⌜ kind ≤ 10 ⌝ }
+    requires high { ⌜ kind ≤ 11 ⌝ }
     requires bits { ⌜ bits < 256 ^ sizeOf kind ⌝ }
     ensures answer { λ r. ⌜ r ≡ elementOf kind bits ⌝ }
 {
-    if kind <= 4 {
+    if kind <= UINT64 {
         return Element::Unsigned(bits);
     }
-    if kind <= 8 {
+    if kind <= INT64 {
         let number = signed_of(bits, half_of(kind));
         return Element::Signed(number);
     }
-    if kind == 9 {
+    if kind == FLOAT {
         let pattern = bits as u32;
         let value = single(pattern);
         return Element::Single {
@@ -108,13 +115,17 @@ fn element_of(kind: u8, bits: u64) -> Element
             bits: pattern,
         };
     }
-    let value = double(bits);
-    Element::Double { value, bits }
+    if kind == DOUBLE {
+        let value = double(bits);
+        return Element::Double { value, bits };
+    }
+    // a character
+    Element::Unsigned(bits)
 }
 
 // As many bytes as the type has.
 fn bits_at(image: &[u8], at: usize, kind: u8) -> u64
-    requires known { ⌜ 0 < sizeOf kind ⌝ }
+    requires sized { ⌜ 0 < sizeOf kind ⌝ }
     requires inside { ⌜ at + sizeOf kind ≤ length (now image) ⌝ }
     ensures answer { λ r. ⌜ r ≡ le (sizeOf kind) (now (image .entry)) at ⌝ }
     ensures bound { λ r. ⌜ r < 256 ^ sizeOf kind ⌝ }

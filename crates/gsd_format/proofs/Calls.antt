@@ -155,7 +155,7 @@ one-of P false x y h g = g
 of-four : (P : Element → Type 0) (kind bits : ℕ) → P (Element.Unsigned bits) → P (Element.Signed (signed (sizeOf kind) bits)) →
     P (Element.Single (Ieee.ofBits Ieee.binary32 bits) bits) → P (Element.Double (Ieee.ofBits Ieee.binary64 bits) bits) → P (elementOf kind bits)
 unfolding elementOf
-of-four P kind bits u i f d = one-of P (leb kind 4) _ _ u (one-of P (leb kind 8) _ _ i (one-of P (eqb kind 9) _ _ f d))
+of-four P kind bits u i f d = one-of P (leb kind 4 || eqb kind 11) _ _ u (one-of P (leb kind 8) _ _ i (one-of P (eqb kind 9) _ _ f d))
 
 no-refusal : (kind bits : ℕ) → elementNumber (elementOf kind bits) ≡ 0
 unfolding elementNumber

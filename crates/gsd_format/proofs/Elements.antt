@@ -29,17 +29,21 @@ pub element-unsigned : (kind bits : ℕ) → kind ≤ 4 → elementOf kind bits 
 unfolding elementOf
 element-unsigned kind bits h = rw (le-leb kind 4 h, elementOf)
 
+pub element-character : (bits : ℕ) → elementOf 11 bits ≡ Element.Unsigned bits
+unfolding elementOf
+element-character bits = refl
+
 pub element-signed : (kind bits : ℕ) → 4 < kind → kind ≤ 8 → elementOf kind bits ≡ Element.Signed (signed (sizeOf kind) bits)
 unfolding elementOf
-element-signed kind bits h g = rw (lt-leb kind 4 h, le-leb kind 8 g, elementOf)
+element-signed kind bits h g = rw (lt-leb kind 4 h, ne-eqb kind 11 (λ e. omega arith), le-leb kind 8 g, elementOf)
 
 pub element-single : (bits : ℕ) → elementOf 9 bits ≡ Element.Single (Ieee.ofBits Ieee.binary32 bits) bits
 unfolding elementOf
 element-single bits = refl
 
-pub element-double : (kind bits : ℕ) → 9 < kind → elementOf kind bits ≡ Element.Double (Ieee.ofBits Ieee.binary64 bits) bits
+pub element-double : (bits : ℕ) → elementOf 10 bits ≡ Element.Double (Ieee.ofBits Ieee.binary64 bits) bits
 unfolding elementOf
-element-double kind bits h = rw (lt-leb kind 4 (omega arith), lt-leb kind 8 (omega arith), ne-eqb kind 9 (λ e. omega arith), elementOf)
+element-double bits = refl
 
 -- the k-th element of a chunk, and none behind its last
 pub element-at : (img : List ℕ) (e : Entry) (k : ℕ) → k < e .n * e .m →

@@ -10,7 +10,7 @@ use lib.Seq.{getD-append-add, getD-drop, drop-drop, take-at, drop-at}
 use Rattle.gsd_format.specs.declared.Layout.{Layout}
 use Rattle.gsd_format.specs.declared.Opening.{Opening}
 use Rattle.gsd_format.specs.Bytes.{le, leBytes, part, zeroIn, zeros}
-use Rattle.gsd_format.specs.Header.{magic, version, headerSize, versionOf, layoutOf}
+use Rattle.gsd_format.specs.Header.{magic, version21, headerSize, versionOf, layoutOf}
 use Rattle.gsd_format.specs.Names.{flat, namesOf}
 use Rattle.gsd_format.specs.Entries.{entriesOf, framesFrom}
 use Rattle.gsd_format.specs.Opening.{verdict, countsOf}
@@ -69,7 +69,7 @@ module _ (slice application schema : List ℕ) (schemaVersion slots segments : �
       omega (arith, t .room, length-drop 48 x, ap length from-48, sizes, length-drop (freshLength slots segments) slice)
 
   abbrev asked : Layout
-  asked = record { len = length slice; index = headerSize; slots = slots; namelist = headerSize + 32 * slots; segments = segments }
+  asked = record { len = length slice; version = version21; index = headerSize; slots = slots; namelist = headerSize + 32 * slots; segments = segments }
 
   laid : layoutOf x ≡ asked
   unfolding layoutOf fresh freshHeader le leBytes
@@ -77,9 +77,9 @@ module _ (slice application schema : List ℕ) (schemaVersion slots segments : �
       let count : le 8 x 16 ≡ slots = le-back 8 slots (omega (arith, t .few-slots)) in
       let namelist : le 8 x 24 ≡ headerSize + 32 * slots = le-back 8 (headerSize + 32 * slots) (omega (arith, t .few-slots)) in
       let segments : le 8 x 32 ≡ segments = le-back 8 segments (omega (arith, t .few-segments)) in
-      λ i. record { len = long i; index = headerSize; slots = count i; namelist = namelist i; segments = segments i }
+      λ i. record { len = long i; version = version21; index = headerSize; slots = count i; namelist = namelist i; segments = segments i }
 
-  numbers : (take 8 x ≡ magic) × (versionOf x ≡ version)
+  numbers : (take 8 x ≡ magic) × (versionOf x ≡ version21)
   unfolding fresh freshHeader le leBytes
   numbers = (refl, refl)
 
@@ -121,7 +121,7 @@ module _ (slice application schema : List ℕ) (schemaVersion slots segments : �
       low = omega (arith, long, t .room);
       high = omega (arith, long, t .short);
       marked = numbers .0;
-      versioned = numbers .1;
+      versioned = rw (numbers .1);
       application = filled-closed x 48 application (t .short-application) application-text;
       schema = filled-closed x 112 schema (t .short-schema) schema-text;
     };
@@ -145,7 +145,6 @@ module _ (slice application schema : List ℕ) (schemaVersion slots segments : �
   fresh-is h = record {
     opens = opening-open x fresh-opens ∙ ap Opening.Open nothing-listed;
     layout = laid;
-    fileVersion = numbers .1;
     sameVersion = schema-version h;
     sameApplication = application-text;
     sameSchema = schema-text;

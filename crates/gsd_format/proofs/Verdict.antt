@@ -7,19 +7,19 @@ use mathlib.Core.List.{List, [], _∷_}
 use native.Mathlib.Omega.{arith}
 use lib.ListN.{length, getD, take, length-take}
 use lib.Seq.{getD-take, ext-getD}
-use borrow.Author.Tests.{ltb-true, ltb-false, leb-true, leb-false, not-false, lt-ltb, le-ltb, le-leb, lt-leb}
+use borrow.Author.Tests.{ltb-false, leb-true, leb-false, not-false, le-ltb, le-leb, lt-leb}
 use Rattle.gsd_format.specs.declared.Entry.{Entry}
 use Rattle.gsd_format.specs.declared.Layout.{Layout}
 use Rattle.gsd_format.specs.declared.Opening.{Opening}
 use Rattle.gsd_format.specs.Bytes.{le, zeroIn, Apart}
-use Rattle.gsd_format.specs.Types.{sizeOf, chunkSize}
-use Rattle.gsd_format.specs.Header.{magic, version, headerSize, leastLength, greatestLength, versionOf, layoutOf}
+use Rattle.gsd_format.specs.Types.{known, chunkSize}
+use Rattle.gsd_format.specs.Header.{magic, supported, headerSize, leastLength, greatestLength, versionOf, layoutOf}
 use Rattle.gsd_format.specs.Names.{namesOf}
 use Rattle.gsd_format.specs.Entries.{entriesOf, key}
 use Rattle.gsd_format.specs.Opening.{headerTest, blocksTest, Blocks, namesTest, entryTest, entriesTest, verdict, countsOf, opening}
 use Rattle.gsd_format.specs.Lookup.{none}
 use Rattle.gsd_format.proofs.Refusals.{both, none-of, unmet, passed, neither, neither-of, both-true, both-of, not-of}
-use Rattle.gsd_format.proofs.Refusals.{not-less, less-no, no-differ, differ-no}
+use Rattle.gsd_format.proofs.Refusals.{not-less, less-no}
 use Rattle.gsd_format.proofs.Bytes.{Same, same-from, le-same, same-eq, eq-same, zeroIn-same, meets-apart, apart-meets}
 use Rattle.gsd_format.proofs.Entries.{Ordered, ShortIds}
 
@@ -28,7 +28,7 @@ pub record Front (x : List ℕ) : Type 0 where
   pub low : leastLength ≤ length x
   pub high : length x ≤ greatestLength
   pub marked : take 8 x ≡ magic
-  pub versioned : versionOf x ≡ version
+  pub versioned : supported (versionOf x) ≡ true
   pub application : zeroIn x 48 64 ≡ true
   pub schema : zeroIn x 112 64 ≡ true
 
@@ -47,7 +47,7 @@ header-zero x = (to, from)
           low = not-less _ _ _ (a .0);
           high = not-less _ _ _ (b .0);
           marked = same-eq _ _ (not-false _ (unmet _ _ (c .0)));
-          versioned = no-differ _ _ _ (d .0);
+          versioned = not-false _ (unmet _ _ (d .0));
           application = not-false _ (e .0);
           schema = not-false _ (e .1);
         }
@@ -55,7 +55,7 @@ header-zero x = (to, from)
     from : Front x → headerTest x ≡ 0
     from f =
         none-of _ _ (less-no _ _ _ (f .low)) (none-of _ _ (less-no _ _ _ (f .high))
-        (none-of _ _ (passed _ _ (not-of _ (eq-same _ _ (f .marked)))) (none-of _ _ (differ-no _ _ _ (f .versioned))
+        (none-of _ _ (passed _ _ (not-of _ (eq-same _ _ (f .marked)))) (none-of _ _ (passed _ _ (not-of _ (f .versioned)))
         (passed _ _ (neither-of _ _ (not-of _ (f .application)) (not-of _ (f .schema)))))))
 
 -- 6 to 8
@@ -87,7 +87,7 @@ blocks-zero l = (to, from)
 pub record Sound (l : Layout) (names : ℕ) (e : Entry) : Type 0 where
   pub low : headerSize ≤ e .location
   pub high : e .location < 2 ^ 63
-  pub typed : 0 < sizeOf (e .kind)
+  pub typed : known (l .version) (e .kind) ≡ true
   pub named : e .id < names
   pub within : e .location + chunkSize e ≤ l .len
   pub offIndex : Apart (e .location) (chunkSize e) (l .index) (32 * l .slots)
@@ -110,7 +110,7 @@ entry-zero l names least top e = (to, from)
           record {
             low = ltb-false _ _ (place .0);
             high = leb-false _ _ (place .1);
-            typed = ltb-true _ _ (not-false _ (unmet _ _ (b .0)));
+            typed = not-false _ (unmet _ _ (b .0));
             named = leb-false _ _ (unmet _ _ (c .0));
             within = not-less _ _ _ (f .0);
             offIndex = meets-apart _ _ _ _ (off .0);
@@ -123,7 +123,7 @@ entry-zero l names least top e = (to, from)
     from : Sound l names e × (least ≤ key e) × (e .frame ≤ top) → entryTest l names least top e ≡ 0
     from (s, a, b) =
         none-of _ _ (passed _ _ (neither-of _ _ (le-ltb _ _ (s .low)) (lt-leb _ _ (s .high))))
-        (none-of _ _ (passed _ _ (not-of _ (lt-ltb _ _ (s .typed))))
+        (none-of _ _ (passed _ _ (not-of _ (s .typed)))
         (none-of _ _ (passed _ _ (lt-leb _ _ (s .named)))
         (none-of _ _ (passed _ _ (not-of _ (both-of _ _ (le-leb _ _ a) (le-leb _ _ b))))
         (none-of _ _ (less-no _ _ _ (s .within))
@@ -206,15 +206,16 @@ opening-refused x number h = rw (h, opening)
 
 -- What the header's numbers depend on
 
--- the places and counts of the two blocks stand in bytes 8 to 39
-pub layout-same : (x y : List ℕ) → length x ≡ length y → Same x 8 y 8 32 → layoutOf x ≡ layoutOf y
+-- the layout stands in bytes 8 to 47
+pub layout-same : (x y : List ℕ) → length x ≡ length y → Same x 8 y 8 40 → layoutOf x ≡ layoutOf y
 unfolding layoutOf
 layout-same x y l h =
     let index : le 8 x 8 ≡ le 8 y 8 = le-same 8 x 8 y 8 (λ k u. h k (omega arith)) in
-    let slots : le 8 x 16 ≡ le 8 y 16 = le-same 8 x 16 y 16 (λ k u. same-from x 8 y 8 8 24 h k (omega arith)) in
-    let namelist : le 8 x 24 ≡ le 8 y 24 = le-same 8 x 24 y 24 (λ k u. same-from x 8 y 8 16 16 h k (omega arith)) in
-    let segments : le 8 x 32 ≡ le 8 y 32 = le-same 8 x 32 y 32 (λ k u. same-from x 8 y 8 24 8 h k (omega arith)) in
-    λ i. record { len = l i; index = index i; slots = slots i; namelist = namelist i; segments = segments i }
+    let slots : le 8 x 16 ≡ le 8 y 16 = le-same 8 x 16 y 16 (λ k u. same-from x 8 y 8 8 32 h k (omega arith)) in
+    let namelist : le 8 x 24 ≡ le 8 y 24 = le-same 8 x 24 y 24 (λ k u. same-from x 8 y 8 16 24 h k (omega arith)) in
+    let segments : le 8 x 32 ≡ le 8 y 32 = le-same 8 x 32 y 32 (λ k u. same-from x 8 y 8 24 16 h k (omega arith)) in
+    let version : versionOf x ≡ versionOf y = le-same 4 x 44 y 44 (λ k u. same-from x 8 y 8 36 4 h k (omega arith)) in
+    λ i. record { len = l i; version = version i; index = index i; slots = slots i; namelist = namelist i; segments = segments i }
 
 -- numbers 1 to 5 depend on the length and on the other bytes of the header alone
 pub header-same : (x y : List ℕ) → length x ≡ length y →

@@ -8,7 +8,7 @@ use lib.Dec.{ltb}
 use Rattle.gsd_format.specs.declared.Opening.{Opening}
 use Rattle.gsd_format.specs.Bytes.{le, leBytes, part, zeroIn, zeros}
 use Rattle.gsd_format.specs.Refusals.{_⇒_, _▹_}
-use Rattle.gsd_format.specs.Header.{magic, version, headerSize, greatestLength, versionOf, layoutOf}
+use Rattle.gsd_format.specs.Header.{magic, version21, headerSize, greatestLength, layoutOf}
 use Rattle.gsd_format.specs.Header.{schemaVersionPlace, applicationPlace, schemaPlace, textSize, reservedPlace, reservedSize, slotSize, segmentSize}
 use Rattle.gsd_format.specs.Opening.{opening}
 
@@ -53,7 +53,7 @@ freshHeader application schema schemaVersion slots segments =
     magic
     ++ leBytes 8 headerSize ++ leBytes 8 slots
     ++ leBytes 8 (headerSize + slotSize * slots) ++ leBytes 8 segments
-    ++ leBytes 4 schemaVersion ++ leBytes 4 version
+    ++ leBytes 4 schemaVersion ++ leBytes 4 version21
     ++ filled application ++ filled schema
     ++ zeros reservedSize
 
@@ -80,8 +80,14 @@ created slice application schema schemaVersion slots segments =
 -- is as it was. Its layout says that its length is the slice's
 pub record Fresh (slice application schema : List ℕ) (schemaVersion slots segments : ℕ) (img : List ℕ) : Type 0 where
   pub opens : opening img ≡ Opening.Open (record { frames = 0; names = 0; entries = 0 })
-  pub layout : layoutOf img ≡ record { len = length slice; index = headerSize; slots = slots; namelist = headerSize + slotSize * slots; segments = segments }
-  pub fileVersion : versionOf img ≡ version
+  pub layout : layoutOf img ≡ record {
+    len = length slice;
+    version = version21;
+    index = headerSize;
+    slots = slots;
+    namelist = headerSize + slotSize * slots;
+    segments = segments;
+  }
   pub sameVersion : le 4 img schemaVersionPlace ≡ schemaVersion
   pub sameApplication : part img applicationPlace textSize ≡ filled application
   pub sameSchema : part img schemaPlace textSize ≡ filled schema

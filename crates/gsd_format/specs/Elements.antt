@@ -1,7 +1,7 @@
 -- Elements: the k-th of a chunk, read by the chunk's type, with its exact bits; 43 after the lookup's numbers.
 use Prim.Native.Nat.{ℕ, _+_, _*_, _-_, _/_, _^_}
 use mathlib.Core.List.{List}
-use mathlib.Core.Bool.{true, false}
+use mathlib.Core.Bool.{true, false, _||_}
 use lib.Dec.{ltb, leb, eqb}
 use lib.IntN.{ℤ, pos, negsuc}
 use lib.Ieee as Ieee
@@ -16,9 +16,9 @@ use Rattle.gsd_format.specs.Lookup.{lookup}
 unfoldable pub signed : ℕ → ℕ → ℤ
 signed w bits = elim (ltb bits (256 ^ w / 2)) [ true ↦ pos bits | false ↦ negsuc (256 ^ w - 1 - bits) ]
 
--- types 1 to 4 are unsigned, 5 to 8 signed, 9 a float, 10 a double
+-- types 1 to 4 and a character are unsigned, 5 to 8 signed, 9 a float, 10 a double
 unfoldable pub elementOf : ℕ → ℕ → Element
-elementOf kind bits = elim (leb kind 4) [
+elementOf kind bits = elim (leb kind 4 || eqb kind 11) [
   | true ↦ Element.Unsigned bits
   | false ↦ elim (leb kind 8) [
     | true ↦ Element.Signed (signed (sizeOf kind) bits)

@@ -1,7 +1,9 @@
 -- The header: 256 bytes of magic, places and counts of the two blocks, versions, application and schema.
 use Prim.Native.Nat.{ℕ}
 use mathlib.Core.List.{List, [], _∷_}
+use mathlib.Core.Bool.{Bool, _||_}
 use lib.ListN.{length}
+use lib.Dec.{eqb}
 use Rattle.gsd_format.specs.declared.Layout.{Layout}
 use Rattle.gsd_format.specs.Bytes.{le}
 
@@ -9,9 +11,16 @@ use Rattle.gsd_format.specs.Bytes.{le}
 abbrev pub magic : List ℕ
 magic = 0xdf ∷ 0x65 ∷ 0xdf ∷ 0x65 ∷ 0xdf ∷ 0x65 ∷ 0xdf ∷ 0x65 ∷ []
 
--- GSD file layer 2.0
-abbrev pub version : ℕ
-version = 0x00020000
+-- GSD file layer 2.0 and 2.1
+abbrev pub version20 : ℕ
+version20 = 0x00020000
+
+abbrev pub version21 : ℕ
+version21 = 0x00020001
+
+-- the versions that open
+abbrev pub supported : ℕ → Bool
+supported version = eqb version version20 || eqb version version21
 
 abbrev pub headerSize : ℕ
 headerSize = 256
@@ -66,14 +75,15 @@ slotSize = 32
 abbrev pub segmentSize : ℕ
 segmentSize = 64
 
+abbrev pub versionOf : List ℕ → ℕ
+versionOf img = le 4 img versionPlace
+
 unfoldable pub layoutOf : List ℕ → Layout
 layoutOf img = record {
   len = length img;
+  version = versionOf img;
   index = le 8 img indexPlace;
   slots = le 8 img slotsPlace;
   namelist = le 8 img namelistPlace;
   segments = le 8 img segmentsPlace;
 }
-
-abbrev pub versionOf : List ℕ → ℕ
-versionOf img = le 4 img versionPlace

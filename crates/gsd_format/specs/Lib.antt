@@ -3,8 +3,8 @@
 pub mod Bytes
 pub mod Ascii
 pub mod Refusals
-pub mod Types
 pub mod Header
+pub mod Types
 pub mod Names
 pub mod Entries
 pub mod Opening

@@ -11,7 +11,7 @@ use Rattle.gsd_format.specs.declared.Opening.{Opening}
 use Rattle.gsd_format.specs.Bytes.{same, zeroIn, meets, Apart}
 use Rattle.gsd_format.specs.Refusals.{_⇒_, _▹_}
 use Rattle.gsd_format.specs.Types.{known, chunkSize}
-use Rattle.gsd_format.specs.Header.{magic, version, headerSize, leastLength, greatestLength, versionOf, layoutOf}
+use Rattle.gsd_format.specs.Header.{magic, supported, headerSize, leastLength, greatestLength, versionOf, layoutOf}
 use Rattle.gsd_format.specs.Header.{applicationPlace, schemaPlace, textSize, slotSize, segmentSize}
 use Rattle.gsd_format.specs.Names.{namesOf, flat, indexOf}
 use Rattle.gsd_format.specs.Entries.{entriesOf, key, framesOf}
@@ -22,7 +22,7 @@ headerTest img =
     (ltb (length img) leastLength ⇒ 1)
     ▹ (ltb greatestLength (length img) ⇒ 2)
     ▹ (not (same (take 8 img) magic) ⇒ 3)
-    ▹ (not (eqb (versionOf img) version) ⇒ 4)
+    ▹ (not (supported (versionOf img)) ⇒ 4)
     ▹ (not (zeroIn img applicationPlace textSize) || not (zeroIn img schemaPlace textSize) ⇒ 5)
 
 -- 6 to 8: each block lies between the header and the slice's end, and the two share no byte
@@ -69,7 +69,7 @@ negative = 2 ^ 63
 unfoldable pub entryTest : Layout → ℕ → ℕ → ℕ → Entry → ℕ
 entryTest l names least top e =
     (ltb (e .location) headerSize || leb negative (e .location) ⇒ 12)
-    ▹ (not (known (e .kind)) ⇒ 13)
+    ▹ (not (known (l .version) (e .kind)) ⇒ 13)
     ▹ (leb names (e .id) ⇒ 14)
     ▹ (not (follows least top e) ⇒ 15)
     ▹ (ltb (l .len) (e .location + chunkSize e) ⇒ 16)

@@ -13,9 +13,10 @@ pub struct Entry {
     pub flags: u8,
 }
 
-// Where an image's two blocks lie: the slice's length, then the four numbers of the header.
+// Where an image's lists are, and in which version: the slice's length, then what the header says.
 pub struct Layout {
     pub len: usize,
+    pub version: u64,
     pub index: u64,
     pub slots: u64,
     pub namelist: u64,

@@ -6,7 +6,7 @@ use native.Mathlib.Nat.{zero-add}
 use native.Mathlib.Omega.{arith}
 use lib.ListN.{length, drop, length-append, length-replicate, replicate-append-replicate}
 use Rattle.gsd_format.specs.Bytes.{leBytes, zeros, stored}
-use Rattle.gsd_format.specs.Header.{magic, version, headerSize}
+use Rattle.gsd_format.specs.Header.{magic, version21, headerSize}
 use Rattle.gsd_format.specs.Create.{filled, freshLength, freshHeader, fresh}
 use Rattle.gsd_format.proofs.Bytes.{leBytes-length, stored-then, stored-paste}
 use Rattle.gsd_fresh.specs.Numbers.{numbers}
@@ -26,10 +26,10 @@ seven s a b c d e f g la lb lc ld le lf =
 
 pub put-numbers : (s : List ℕ) (schemaVersion slots segments : ℕ)
     → stored (stored (stored (stored (stored (stored (stored s 0 magic) 8 (leBytes 8 headerSize)) 16 (leBytes 8 slots)) 24 (leBytes 8 (headerSize + 32 * slots)))
-    32 (leBytes 8 segments)) 40 (leBytes 4 schemaVersion)) 44 (leBytes 4 version)
+    32 (leBytes 8 segments)) 40 (leBytes 4 schemaVersion)) 44 (leBytes 4 version21)
     ≡ stored s 0 (numbers schemaVersion slots segments)
 put-numbers s schemaVersion slots segments =
-    seven s magic (leBytes 8 headerSize) (leBytes 8 slots) (leBytes 8 (headerSize + 32 * slots)) (leBytes 8 segments) (leBytes 4 schemaVersion) (leBytes 4 version)
+    seven s magic (leBytes 8 headerSize) (leBytes 8 slots) (leBytes 8 (headerSize + 32 * slots)) (leBytes 8 segments) (leBytes 4 schemaVersion) (leBytes 4 version21)
     refl (leBytes-length 8 headerSize) (leBytes-length 8 slots) (leBytes-length 8 (headerSize + 32 * slots)) (leBytes-length 8 segments) (leBytes-length 4 schemaVersion)
 
 pub put-filled : (s : List ℕ) (at : ℕ) (t : List ℕ) → length t ≤ 63

@@ -2,11 +2,11 @@
 use Prim.Native.Nat.{ℕ, _+_, _*_}
 use mathlib.Core.List.{List, _++_}
 use Rattle.gsd_format.specs.Bytes.{leBytes}
-use Rattle.gsd_format.specs.Header.{magic, version, headerSize}
+use Rattle.gsd_format.specs.Header.{magic, version21, headerSize}
 
 abbrev pub numbers : ℕ → ℕ → ℕ → List ℕ
 numbers schemaVersion slots segments =
     magic
     ++ leBytes 8 headerSize ++ leBytes 8 slots
     ++ leBytes 8 (headerSize + 32 * slots) ++ leBytes 8 segments
-    ++ leBytes 4 schemaVersion ++ leBytes 4 version
+    ++ leBytes 4 schemaVersion ++ leBytes 4 version21

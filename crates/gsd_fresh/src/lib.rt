@@ -12,7 +12,7 @@ use gsd_bytes::SEGMENTS_PLACE;
 use gsd_bytes::SLOT_SIZE;
 use gsd_bytes::SLOTS_PLACE;
 use gsd_bytes::TEXT_SIZE;
-use gsd_bytes::VERSION;
+use gsd_bytes::VERSION_2_1;
 use gsd_bytes::VERSION_PLACE;
 use gsd_bytes::fill_zero;
 use gsd_bytes::put_half;
@@ -39,7 +39,7 @@ fn put_numbers(s: &mut [u8], schema_version: u32, slots: u64, segments: u64)
     put_word(s, NAMELIST_PLACE, HEADER_SIZE + SLOT_SIZE * slots);
     put_word(s, SEGMENTS_PLACE, segments);
     put_half(s, SCHEMA_VERSION_PLACE, schema_version as u64);
-    put_half(s, VERSION_PLACE, VERSION);
+    put_half(s, VERSION_PLACE, VERSION_2_1);
 }
 
 // A text of the header in its 64 bytes.

@@ -72,13 +72,13 @@ room-capped l a whole r b c = go (decLt greatestLength whole)
 -- The chain
 
 pub entry-split : (l : Layout) (names least top : ℕ) (e : Entry) →
-    entryTest l names least top e ≡ fieldsTest names least top e ▹ roomTest l (e .location) (chunkSize e)
+    entryTest l names least top e ≡ fieldsTest (l .version) names least top e ▹ roomTest l (e .location) (chunkSize e)
 unfolding entryTest fieldsTest roomTest
 entry-split l names least top e = simp ▹-assoc
 
-pub fields-place : (names least top : ℕ) (e : Entry) → fieldsTest names least top e ≡ 0 → e .location < 2 ^ 63
+pub fields-place : (version names least top : ℕ) (e : Entry) → fieldsTest version names least top e ≡ 0 → e .location < 2 ^ 63
 unfolding fieldsTest
-fields-place names least top e h = leb-false (2 ^ 63) (e .location) (neither (ltb (e .location) headerSize) _ (unmet _ 11 (both _ _ h .0)) .1)
+fields-place version names least top e h = leb-false (2 ^ 63) (e .location) (neither (ltb (e .location) headerSize) _ (unmet _ 11 (both _ _ h .0)) .1)
 
 -- The walk's two ways out
 

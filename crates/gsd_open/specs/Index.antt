@@ -22,10 +22,10 @@ pub record Capped (whole r : ℕ) : Type 0 where
   pub fits : r ≤ 2 ^ 63
 
 -- 12 to 15: the entry by itself and behind the one before
-unfoldable pub fieldsTest : ℕ → ℕ → ℕ → Entry → ℕ
-fieldsTest names least top e =
+unfoldable pub fieldsTest : ℕ → ℕ → ℕ → ℕ → Entry → ℕ
+fieldsTest version names least top e =
     (ltb (e .location) headerSize || leb (2 ^ 63) (e .location) ⇒ 12)
-    ▹ (not (known (e .kind)) ⇒ 13)
+    ▹ (not (known version (e .kind)) ⇒ 13)
     ▹ (leb names (e .id) ⇒ 14)
     ▹ (not (follows least top e) ⇒ 15)
 

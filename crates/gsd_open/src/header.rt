@@ -12,7 +12,8 @@ use gsd_bytes::SEGMENT_SIZE;
 use gsd_bytes::SEGMENTS_PLACE;
 use gsd_bytes::SLOT_SIZE;
 use gsd_bytes::SLOTS_PLACE;
-use gsd_bytes::VERSION;
+use gsd_bytes::VERSION_2_0;
+use gsd_bytes::VERSION_2_1;
 use gsd_bytes::VERSION_PLACE;
 use gsd_bytes::has_magic;
 use gsd_bytes::has_zero;
@@ -25,7 +26,7 @@ ghost use mathlib.Core.Bool.{not, _||_};
 ghost use lib.ListN.{length};
 ghost use lib.Dec.{ltb};
 ghost use Rattle.gsd_format.specs.Bytes.{zeroIn};
-ghost use Rattle.gsd_format.specs.Header.{headerSize, greatestLength, applicationPlace, schemaPlace, textSize, layoutOf};
+ghost use Rattle.gsd_format.specs.Header.{supported, headerSize, greatestLength, applicationPlace, schemaPlace, textSize, layoutOf};
 ghost use Rattle.gsd_format.specs.Opening.{headerTest, blocksTest};
 
 // Is application or schema without a zero byte?
@@ -37,6 +38,16 @@ fn text_open(image: &[u8]) -> bool
         return true;
     }
     !has_zero(image, SCHEMA_PLACE, RESERVED_PLACE)
+}
+
+// Does an image of this version open?
+fn supported(version: u64) -> bool
+    ensures { λ r. ⌜ r ≡ supported version ⌝ }
+{
+    if version == VERSION_2_0 {
+        return true;
+    }
+    version == VERSION_2_1
 }
 
 // 1 to 5: the slice's length, the magic, the version, application and schema.
@@ -52,19 +63,20 @@ pub(crate) fn header_number(image: &[u8]) -> u64
     if !has_magic(image) {
         return 3;
     }
-    if u32_at(image, VERSION_PLACE) != VERSION {
+    if !supported(u32_at(image, VERSION_PLACE)) {
         return 4;
     }
     refuse(text_open(image), 5)
 }
 
-// The header's four numbers, and the slice's length.
+// The slice's length, the version and the four numbers of the two blocks.
 pub(crate) fn layout_of(image: &[u8]) -> Layout
     requires { ⌜ headerSize ≤ length (now image) ⌝ }
     ensures { λ r. ⌜ r ≡ layoutOf (now (image .entry)) ⌝ }
 {
     Layout {
         len: image.len(),
+        version: u32_at(image, VERSION_PLACE),
         index: u64_at(image, INDEX_PLACE),
         slots: u64_at(image, SLOTS_PLACE),
         namelist: u64_at(image, NAMELIST_PLACE),

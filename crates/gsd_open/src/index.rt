@@ -6,6 +6,7 @@ use crate::stretch::share;
 use gsd_bytes::HEADER_SIZE;
 use gsd_bytes::SEGMENT_SIZE;
 use gsd_bytes::SLOT_SIZE;
+use gsd_bytes::known;
 use gsd_bytes::size_of;
 use gsd_bytes::u16_at;
 use gsd_bytes::u32_at;
@@ -83,9 +84,9 @@ fn follows_last(least: u64, top: u64, e: Entry) -> bool
 }
 
 // 12 to 15: the entry by itself and behind the one before.
-fn fields_number(names: u64, least: u64, top: u64, e: Entry) -> u64
+fn fields_number(version: u64, names: u64, least: u64, top: u64, e: Entry) -> u64
     requires { ⌜ top < 2 ^ 47 ⌝ }
-    ensures { λ r. ⌜ r ≡ fieldsTest names least top e ⌝ }
+    ensures { λ r. ⌜ r ≡ fieldsTest version names least top e ⌝ }
 {
     if e.location < HEADER_SIZE {
         return 12;
@@ -93,7 +94,7 @@ fn fields_number(names: u64, least: u64, top: u64, e: Entry) -> u64
     if NEGATIVE <= e.location {
         return 12;
     }
-    if size_of(e.kind) == 0 {
+    if !known(version, e.kind) {
         return 13;
     }
     if names <= e.id as u64 {
@@ -130,7 +131,7 @@ fn entry_number(l: Layout, names: u64, least: u64, top: u64, e: Entry, size: u64
     requires sized { ⌜ Capped (chunkSize e) size ⌝ }
     ensures { λ r. ⌜ r ≡ entryTest l names least top e ⌝ }
 {
-    let number = fields_number(names, least, top, e);
+    let number = fields_number(l.version, names, least, top, e);
     if number != 0 {
         return number;
     }

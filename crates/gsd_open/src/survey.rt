@@ -33,6 +33,7 @@ fn refusal(number: u64) -> Survey
         number,
         layout: Layout {
             len: 0,
+            version: 0,
             index: 0,
             slots: 0,
             namelist: 0,

@@ -34,8 +34,8 @@ module _ {x sheet : List ℕ} {s : Survey} {c : List ℕ} {new : NewNames} (see 
   abbrev d : Plan
   d = planned x sheet
 
-  pub ready : Accepted sheet
-  ready = accepted sheet (ask .accepted)
+  pub ready : Accepted (v .layout .version) sheet
+  ready = accepted _ sheet (ask .accepted)
 
   pub plan : Planned v rs d
   plan = plan-is v rs

@@ -24,7 +24,7 @@ use Rattle.gsd_sheet.specs.Rows.{Located}
 use Rattle.gsd_ids.specs.declared.NewNames.{NewNames}
 use Rattle.gsd_ids.specs.RowIds.{IdsFound}
 use Rattle.gsd_matched.specs.Matches.{Matches}
-use Rattle.gsd_plan.specs.Planning.{planned, Asked, Plans}
+use Rattle.gsd_plan.specs.Planning.{planned, Sees, Asked, Plans}
 use Rattle.gsd_plan.proofs.Image.{opens, layout-is}
 
 -- refused, planned, or as the test that decides says
@@ -55,12 +55,18 @@ module _ (x sheet : List ℕ) where
     unfolding planTest
     few-names l = goes-on _ 28 _ (le-ltb mostNames (length (viewOf x .names) + length (newNames (viewOf x .names) (rowsOf sheet))) (omega (arith, found-ids .fresh)))
 
-    pub asked : sheetTest sheet ≡ 0 → length p ≡ planWords → Located sheet p → Asked x sheet p new
-    asked a l h = record { accepted = a; long = l; located = h; found = found-ids }
+    -- a sheet that is accepted for the version that was seen is accepted for the image's
+    pub asked : {s : Survey} → Sees x s → sheetTest (s .layout .version) sheet ≡ 0 → length p ≡ planWords → Located sheet p → Asked x sheet p new
+    asked see a l h = record {
+      accepted = ap (λ v. sheetTest (v .version) sheet) (sym (see .layout)) ∙ a;
+      long = l;
+      located = h;
+      found = found-ids;
+    }
 
   -- Number by number
 
-  all-tests : appendTest x sheet ≡ verdict x ▹ imageTest (viewOf x .layout) ▹ sheetTest sheet ▹ planTest x sheet
+  all-tests : appendTest x sheet ≡ verdict x ▹ imageTest (viewOf x .layout) ▹ sheetTest (viewOf x .layout .version) sheet ▹ planTest x sheet
   unfolding appendTest
   all-tests = refl
 
@@ -75,23 +81,23 @@ module _ (x sheet : List ℕ) where
   not-opened n r p = stops n _ _ r p all-tests
 
   module _ (starts : List ℕ) (s : Survey) (told : Surveyed x starts s) (good : s .number ≡ 0) where
-    image-next : appendTest x sheet ≡ imageTest (s .layout) ▹ sheetTest sheet ▹ planTest x sheet
+    image-next : appendTest x sheet ≡ imageTest (s .layout) ▹ sheetTest (s .layout .version) sheet ▹ planTest x sheet
     image-next =
         all-tests ∙ first-of (verdict x) _ (opens x starts s told good)
-        ∙ ap (λ l. imageTest l ▹ sheetTest sheet ▹ planTest x sheet) (sym (layout-is x starts s told good))
+        ∙ ap (λ l. imageTest l ▹ sheetTest (l .version) sheet ▹ planTest x sheet) (sym (layout-is x starts s told good))
 
     pub bad-image : (n : ℕ) (r : ℕ) (p : List ℕ) → n ≡ imageTest (s .layout) → (n ≡ 0 → ⊥) → r ≡ n → Plans x sheet (appendTest x sheet) r p
     bad-image n r p = stops n _ _ r p image-next
 
     module _ (even : imageTest (s .layout) ≡ 0) where
-      sheet-next : appendTest x sheet ≡ sheetTest sheet ▹ planTest x sheet
+      sheet-next : appendTest x sheet ≡ sheetTest (s .layout .version) sheet ▹ planTest x sheet
       sheet-next = image-next ∙ first-of (imageTest (s .layout)) _ even
 
-      pub bad-sheet : (n : ℕ) (r : ℕ) (p : List ℕ) → n ≡ sheetTest sheet → (n ≡ 0 → ⊥) → r ≡ n → Plans x sheet (appendTest x sheet) r p
+      pub bad-sheet : (n : ℕ) (r : ℕ) (p : List ℕ) → n ≡ sheetTest (s .layout .version) sheet → (n ≡ 0 → ⊥) → r ≡ n → Plans x sheet (appendTest x sheet) r p
       bad-sheet n r p = stops n _ _ r p sheet-next
 
-      pub good-sheet : sheetTest sheet ≡ 0 → appendTest x sheet ≡ planTest x sheet
-      good-sheet e = sheet-next ∙ first-of (sheetTest sheet) (planTest x sheet) e
+      pub good-sheet : sheetTest (s .layout .version) sheet ≡ 0 → appendTest x sheet ≡ planTest x sheet
+      good-sheet e = sheet-next ∙ first-of (sheetTest (s .layout .version) sheet) (planTest x sheet) e
 
 -- 21: where a block does not lie at a word
 module _ (l : Layout) where

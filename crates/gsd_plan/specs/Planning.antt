@@ -35,7 +35,7 @@ pub record Sees (x : List ℕ) (s : Survey) : Type 0 where
 
 -- an accepted sheet, where its rows lie, and the ids of their names
 pub record Asked (x sheet p : List ℕ) (new : NewNames) : Type 0 where
-  pub accepted : sheetTest sheet ≡ 0
+  pub accepted : sheetTest (viewOf x .layout .version) sheet ≡ 0
   pub long : length p ≡ planWords
   pub located : Located sheet p
   pub found : IdsFound (viewOf x .names) (rowsOf sheet) p new

@@ -64,7 +64,7 @@ fn plan_names(
 ) -> u64
     requires surveyed { ⌜ Surveyed (now image) (now starts) survey ⌝ }
     requires opens { ⌜ survey .number ≡ 0 ⌝ }
-    requires accepted { ⌜ sheetTest (now sheet) ≡ 0 ⌝ }
+    requires accepted { ⌜ sheetTest (survey .layout .version) (now sheet) ≡ 0 ⌝ }
     requires long { ⌜ length (now plan) ≡ planWords ⌝ }
     requires located { ⌜ Located (now sheet) (now plan) ⌝ }
     ensures { λ r. ⌜ Plans (now (image .entry)) (now (sheet .entry)) (planTest (now (image .entry)) (now (sheet .entry))) r (now (plan .exit)) ⌝ }
@@ -104,7 +104,7 @@ pub fn plan_append(image: &[u8], sheet: &[u8], plan: &mut [u64]) -> u64
     if number != 0 {
         return number;
     }
-    let number = sheet_rows(sheet, plan);
+    let number = sheet_rows(survey.layout.version, sheet, plan);
     if number != 0 {
         return number;
     }

@@ -23,6 +23,7 @@ use Rattle.gsd_format.specs.Opening.{verdict}
 use Rattle.gsd_format.specs.Lookup.{none, nowhere, nthName, findEntry, lookup, placed, chunkPlace, bytesAt}
 use Rattle.gsd_format.specs.Elements.{elementIn, element}
 use Rattle.gsd_format.proofs.Lists.{each-at}
+use Rattle.gsd_format.proofs.Types.{known-sized}
 use Rattle.gsd_format.proofs.Names.{Lies, parts-within}
 use Rattle.gsd_format.proofs.Verdict.{Sound, verdict-zero}
 use Rattle.gsd_format.proofs.Lookup.{find-end, find-sound, look-found, opened-lookup, opened-name, opened-no-name, refused-name, found-opens}
@@ -104,7 +105,7 @@ module _ (img : List ℕ) (frame : ℕ) (name : List ℕ) (e : Entry) (found : l
 
   pub found-held : Held img e
   found-held = record {
-    typed = found-sound .typed;
+    sized = known-sized _ _ (found-sound .typed);
     within = omega (arith, found-sound .within, layout-length img (layoutOf img) refl);
     short = verdict-zero img .0 (found-opens img frame name e found) .front .high;
   }

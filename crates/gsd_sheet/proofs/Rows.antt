@@ -1,7 +1,7 @@
 -- Laws of the sheet's tests as the code makes them: row by row, and pair by pair.
 use Prim.Native.Nat.{ℕ, suc, _+_, _*_, _-_, _/_, _≤_, _<_}
 use mathlib.Core.Path.{_≡_, refl, sym, _∙_, ap}
-use mathlib.Core.Bool.{true, false, not, _||_}
+use mathlib.Core.Bool.{Bool, true, false, not, _||_}
 use mathlib.Core.List.{List, []}
 use native.Mathlib.Nat.{mul-assoc, mul-le-mul, div-lt-iff-lt-mul}
 use native.Mathlib.Numerals.{add-one}
@@ -11,7 +11,7 @@ use lib.Seq.{drop-cons}
 use lib.Dec.{ltb, eqb}
 use borrow.Author.Tests.{ltb-true, ltb-false, lt-ltb, le-ltb, eq-eqb, ne-eqb}
 use Rattle.gsd_format.specs.Bytes.{le, part, zeroIn}
-use Rattle.gsd_format.specs.Types.{sizeOf}
+use Rattle.gsd_format.specs.Types.{sizeOf, known}
 use Rattle.gsd_format.specs.Names.{indexOf}
 use Rattle.gsd_format.specs.Opening.{twins}
 use Rattle.gsd_format.specs.Refusals.{_⇒_, _▹_}
@@ -25,53 +25,57 @@ use Rattle.gsd_sheet.specs.Columns.{nameFrom, dataFrom, Filled, Kept}
 use Rattle.gsd_sheet.specs.Rows.{tableTest, endTest, namesTest, sheetNames, nameOf, repeats, Located}
 use Rattle.gsd_sheet.proofs.Columns.{filled-kept}
 
--- the size of a row's type, found in two steps
+-- the size of a row's type, and whether a version knows it, found in two steps
 pub kind-size : (s : List ℕ) (t k z : ℕ) → k ≡ rowKind s t → z ≡ sizeOf k → z ≡ sizeOf (rowKind s t)
 kind-size s t k z e f = rw e at f
 
+pub kind-known : (version : ℕ) (s : List ℕ) (t k : ℕ) (r : Bool) → k ≡ rowKind s t → r ≡ known version k → known version (rowKind s t) ≡ r
+kind-known version s t k r e f = ap (known version) (sym e) ∙ sym f
+
 -- 24: a row's tests in their order
-module _ (s : List ℕ) (t : ℕ) where
-  pub bad-kind : sizeOf (rowKind s t) ≡ 0 → badRow s t ≡ true
+module _ (version : ℕ) (s : List ℕ) (t : ℕ) where
+  pub bad-kind : known version (rowKind s t) ≡ false → badRow version s t ≡ true
   bad-kind e = rw e
 
-  pub bad-name : (sizeOf (rowKind s t) ≡ 0 → ⊥) → nameSize s t ≡ 0 → badRow s t ≡ true
-  bad-name e f = simp (lt-ltb 0 (sizeOf (rowKind s t)) (omega arith), f)
+  pub bad-name : known version (rowKind s t) ≡ true → nameSize s t ≡ 0 → badRow version s t ≡ true
+  bad-name e f = rw (e, f)
 
-  pub bad-spare : (sizeOf (rowKind s t) ≡ 0 → ⊥) → (nameSize s t ≡ 0 → ⊥) → badRow s t ≡ not (eqb (le 2 s (t + 14)) 0)
-  bad-spare e f = simp (lt-ltb 0 (sizeOf (rowKind s t)) (omega arith), ne-eqb (nameSize s t) 0 f)
+  pub bad-spare : known version (rowKind s t) ≡ true → (nameSize s t ≡ 0 → ⊥) → badRow version s t ≡ not (eqb (le 2 s (t + 14)) 0)
+  bad-spare e f = rw (e, ne-eqb (nameSize s t) 0 f)
 
 -- the table from row i on is bad when row i is, or the rest
-pub bad-next : (s : List ℕ) (n i : ℕ) → i < n → badTable s (rowAt i) (n - i) ≡ (badRow s (rowAt i) || badTable s (rowAt (i + 1)) (n - (i + 1)))
+pub bad-next : (version : ℕ) (s : List ℕ) (n i : ℕ) → i < n
+    → badTable version s (rowAt i) (n - i) ≡ (badRow version s (rowAt i) || badTable version s (rowAt (i + 1)) (n - (i + 1)))
 unfolding badTable
-bad-next s n i l =
+bad-next version s n i l =
     let e : n - i ≡ suc (n - (i + 1)) = omega arith in
     let f : rowAt i + 16 ≡ rowAt (i + 1) = omega arith in
     rw (e, badTable, f)
 
-pub bad-none : (s : List ℕ) (n : ℕ) → badTable s (rowAt n) (n - n) ≡ false
+pub bad-none : (version : ℕ) (s : List ℕ) (n : ℕ) → badTable version s (rowAt n) (n - n) ≡ false
 unfolding badTable
-bad-none s n = let e : n - n ≡ 0 = omega arith in rw (e, badTable)
+bad-none version s n = let e : n - n ≡ 0 = omega arith in rw (e, badTable)
 
 -- 22 to 24 in their order
-module _ (s : List ℕ) where
-  pub table-short : length s < 4 → tableTest s ≡ 22
+module _ (version : ℕ) (s : List ℕ) where
+  pub table-short : length s < 4 → tableTest version s ≡ 22
   unfolding tableTest _⇒_ _▹_
   table-short h = simp (lt-ltb (length s) 4 h)
 
-  pub table-none : 4 ≤ length s → rowCount s ≡ 0 → tableTest s ≡ 22
+  pub table-none : 4 ≤ length s → rowCount s ≡ 0 → tableTest version s ≡ 22
   unfolding tableTest _⇒_ _▹_
   table-none h e = simp (le-ltb (length s) 4 h, eq-eqb (rowCount s) 0 e)
 
-  pub table-many : 4 ≤ length s → 64 < rowCount s → tableTest s ≡ 22
+  pub table-many : 4 ≤ length s → 64 < rowCount s → tableTest version s ≡ 22
   unfolding tableTest _⇒_ _▹_
   table-many h l = simp (le-ltb (length s) 4 h, ne-eqb (rowCount s) 0 (λ e. omega arith), lt-ltb 64 (rowCount s) l)
 
   module _ (h : 4 ≤ length s) (some : 0 < rowCount s) (few : rowCount s ≤ 64) where
-    pub table-cut : length s < tableEnd s → tableTest s ≡ 23
+    pub table-cut : length s < tableEnd s → tableTest version s ≡ 23
     unfolding tableTest _⇒_ _▹_
     table-cut l = simp (le-ltb (length s) 4 h, ne-eqb (rowCount s) 0 (λ e. omega arith), le-ltb 64 (rowCount s) few, lt-ltb (length s) (tableEnd s) l)
 
-    pub table-whole : tableEnd s ≤ length s → tableTest s ≡ (badTable s 4 (rowCount s) ⇒ 24)
+    pub table-whole : tableEnd s ≤ length s → tableTest version s ≡ (badTable version s 4 (rowCount s) ⇒ 24)
     unfolding tableTest _⇒_ _▹_
     table-whole l = simp (le-ltb (length s) 4 h, ne-eqb (rowCount s) 0 (λ e. omega arith), le-ltb 64 (rowCount s) few, le-ltb (length s) (tableEnd s) l)
 
@@ -200,25 +204,25 @@ pub record Tabled (s : List ℕ) : Type 0 where
   pub few : rowCount s ≤ mostRows
   pub whole : tableEnd s ≤ length s
 
-pub tabled : (s : List ℕ) → tableTest s ≡ 0 → Tabled s
+pub tabled : (version : ℕ) (s : List ℕ) → tableTest version s ≡ 0 → Tabled s
 unfolding tableTest
-tabled s h =
+tabled version s h =
     let from22 = both _ _ h in
     let from23 = both _ _ (from22 .1) in
     let count : (((ltb (length s) 4 || eqb (rowCount s) 0) ≡ false) × (ltb mostRows (rowCount s) ≡ false)) = neither _ _ (unmet _ _ (from22 .0)) in
     record { long = ltb-false _ _ (neither _ _ (count .0) .0); few = ltb-false _ _ (count .1); whole = not-less _ _ _ (from23 .0) }
 
 -- the first part that refuses decides
-module _ (s : List ℕ) where
-  parts : sheetTest s ≡ tableTest s ▹ endTest s ▹ namesTest s
+module _ (version : ℕ) (s : List ℕ) where
+  parts : sheetTest version s ≡ tableTest version s ▹ endTest s ▹ namesTest s
   unfolding sheetTest tableTest endTest namesTest
   parts = simp ▹-assoc
 
-  pub number-table : (tableTest s ≡ 0 → ⊥) → sheetTest s ≡ tableTest s
+  pub number-table : (tableTest version s ≡ 0 → ⊥) → sheetTest version s ≡ tableTest version s
   number-table f = parts ∙ stays _ _ f
 
-  pub number-end : tableTest s ≡ 0 → (endTest s ≡ 0 → ⊥) → sheetTest s ≡ endTest s
+  pub number-end : tableTest version s ≡ 0 → (endTest s ≡ 0 → ⊥) → sheetTest version s ≡ endTest s
   number-end e f = parts ∙ first-of _ _ e ∙ stays _ _ f
 
-  pub number-names : tableTest s ≡ 0 → endTest s ≡ 0 → sheetTest s ≡ namesTest s
+  pub number-names : tableTest version s ≡ 0 → endTest s ≡ 0 → sheetTest version s ≡ namesTest s
   number-names e f = parts ∙ first-of _ _ e ∙ first-of _ _ f

@@ -18,11 +18,11 @@ abbrev pub nameOf : List ℕ → ℕ → List ℕ
 nameOf s i = getD (sheetNames s) i []
 
 -- the sheet's test in three parts: 22 to 24, 25, 26 and 27
-unfoldable pub tableTest : List ℕ → ℕ
-tableTest s =
+unfoldable pub tableTest : ℕ → List ℕ → ℕ
+tableTest version s =
     (ltb (length s) 4 || eqb (rowCount s) 0 || ltb mostRows (rowCount s) ⇒ 22)
     ▹ (ltb (length s) (tableEnd s) ⇒ 23)
-    ▹ (badTable s 4 (rowCount s) ⇒ 24)
+    ▹ (badTable version s 4 (rowCount s) ⇒ 24)
 
 unfoldable pub endTest : List ℕ → ℕ
 endTest s = not (eqb (length s) (bodiesEnd s 4 (tableEnd s) (rowCount s))) ⇒ 25

@@ -1,5 +1,6 @@
 // The append sheet: its tests, numbers 22 to 27, and where the name and the data of each row lie in it.
 use gsd_bytes::has_zero;
+use gsd_bytes::known;
 use gsd_bytes::same_part;
 use gsd_bytes::size_of;
 use gsd_bytes::u16_at;
@@ -85,12 +86,12 @@ fn name_size(sheet: &[u8], i: usize) -> usize
     wide(sheet[TABLE_START + ROW_SIZE * i + 13]) as usize
 }
 
-// 24
-fn bad_row(sheet: &[u8], i: usize) -> bool
+// 24, for an image of this version.
+fn bad_row(version: u64, sheet: &[u8], i: usize) -> bool
     requires { ⌜ rowAt i + rowSize ≤ length (now sheet) ⌝ }
-    ensures { λ r. ⌜ r ≡ badRow (now (sheet .entry)) (rowAt i) ⌝ }
+    ensures { λ r. ⌜ r ≡ badRow version (now (sheet .entry)) (rowAt i) ⌝ }
 {
-    if size_of(row_kind(sheet, i)) == 0 {
+    if !known(version, row_kind(sheet, i)) {
         return true;
     }
     if name_size(sheet, i) == 0 {
@@ -99,13 +100,13 @@ fn bad_row(sheet: &[u8], i: usize) -> bool
     u16_at(sheet, TABLE_START + ROW_SIZE * i + 14) != 0
 }
 
-fn bad_table(sheet: &[u8], count: usize) -> bool
+fn bad_table(version: u64, sheet: &[u8], count: usize) -> bool
     requires { ⌜ rowAt count ≤ length (now sheet) ⌝ }
-    ensures { λ r. ⌜ r ≡ badTable (now (sheet .entry)) tableStart count ⌝ }
+    ensures { λ r. ⌜ r ≡ badTable version (now (sheet .entry)) tableStart count ⌝ }
 {
     let mut i = 0;
     while i < count {
-        if bad_row(sheet, i) {
+        if bad_row(version, sheet, i) {
             return true;
         }
         i += 1;
@@ -114,8 +115,8 @@ fn bad_table(sheet: &[u8], count: usize) -> bool
 }
 
 // 22 to 24.
-fn table_number(sheet: &[u8]) -> u64
-    ensures { λ r. ⌜ r ≡ tableTest (now (sheet .entry)) ⌝ }
+fn table_number(version: u64, sheet: &[u8]) -> u64
+    ensures { λ r. ⌜ r ≡ tableTest version (now (sheet .entry)) ⌝ }
 {
     if sheet.len() < 4 {
         return 22;
@@ -130,7 +131,7 @@ fn table_number(sheet: &[u8]) -> u64
     if sheet.len() < TABLE_START + ROW_SIZE * count {
         return 23;
     }
-    if bad_table(sheet, count) {
+    if bad_table(version, sheet, count) {
         return 24;
     }
     0
@@ -290,13 +291,13 @@ fn names_number(sheet: &[u8], count: usize, plan: &[u64]) -> u64
     0
 }
 
-// 22 to 27, and where that is 0 the plan says where the rows' names and data lie.
-pub fn sheet_rows(sheet: &[u8], plan: &mut [u64]) -> u64
+// 22 to 27 for an image of this version, and where that is 0 the plan says where the rows' names and data lie.
+pub fn sheet_rows(version: u64, sheet: &[u8], plan: &mut [u64]) -> u64
     requires { ⌜ length (now plan) ≡ planWords ⌝ }
-    ensures answer { λ r. ⌜ r ≡ sheetTest (now (sheet .entry)) ⌝ }
+    ensures answer { λ r. ⌜ r ≡ sheetTest version (now (sheet .entry)) ⌝ }
     ensures rows { λ r. ⌜ (r ≡ 0 → Located (now (sheet .entry)) (now (plan .exit))) ⌝ }
 {
-    let number = table_number(sheet);
+    let number = table_number(version, sheet);
     if number != 0 {
         return number;
     }

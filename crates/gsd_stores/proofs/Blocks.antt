@@ -12,7 +12,7 @@ use Rattle.gsd_format.specs.Header.{headerSize, layoutOf}
 use Rattle.gsd_format.specs.Names.{flat}
 use Rattle.gsd_format.specs.Lookup.{none}
 use Rattle.gsd_format.proofs.Lists.{Each}
-use Rattle.gsd_format.proofs.Bytes.{Same, Text, zero-le, part-length, part-at}
+use Rattle.gsd_format.proofs.Bytes.{Same, Text, le-same, zero-le, part-length, part-at}
 use Rattle.gsd_format.proofs.Names.{Named}
 use Rattle.gsd_format.proofs.Entries.{entries-kept}
 use Rattle.gsd_format.proofs.Verdict.{Sound, front-same}
@@ -133,7 +133,7 @@ restage {x₀} {v} {d} {t} {x} {y} {l} {ns} low off r s = record {
       sound = λ i a. let q : Sound (v .layout) (length (v .names)) (getD (v .entries) i none) = s .base .is .sound i a in record {
         low = q .low;
         high = q .high;
-        typed = q .typed;
+        typed = rw version (q .typed);
         named = omega arith;
         within = omega (arith, long);
         offIndex = r .index .off i a;
@@ -152,6 +152,12 @@ restage {x₀} {v} {d} {t} {x} {y} {l} {ns} low off r s = record {
   where
     long : l .len ≡ v .layout .len
     long = sym (ap (λ c. c .len) (r .layout)) ∙ r .long ∙ is-long (s .base .is)
+
+    version : l .version ≡ v .layout .version
+    version =
+        sym (ap (λ c. c .version) (r .layout))
+        ∙ le-same 4 y 44 x 44 (λ k a. r .outside (44 + k) (λ c e. omega arith) (λ c e. omega (arith, s .base .is .blocks .namelistLow)))
+        ∙ ap (λ c. c .version) (s .base .is .layout)
 
     size : length (listIn theIndex x v) ≡ 32 * length (v .entries)
     size = entries-length (s .base .is)

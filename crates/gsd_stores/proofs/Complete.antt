@@ -39,7 +39,7 @@ pub record Appended (v : View) (rs : List Row) (p : Plan) (y : List ℕ) (w : Vi
   pub long : dataEnd p ≤ length y
 
 module _ (v : View) (rs : List Row) (p : Plan) (y : List ℕ) (w : View) (h : Appended v rs p y w) (r : Ready v rs p)
-    (ok : RowsOk rs) (ids : ShortIds (v .entries)) where
+    (ok : RowsOk (v .layout .version) rs) (ids : ShortIds (v .entries)) where
   look : (frame : ℕ) (name : List ℕ) → lookup y frame name ≡ lookupIn (v .entries ++ p .entries) (v .names ++ p .fresh) frame name
   look frame name = opened-lookup y (h .opens) frame name ∙ (λ i. lookupIn ((shown-entries (h .is) ∙ h .entries) i) ((shown-names (h .is) ∙ h .names) i) frame name)
 

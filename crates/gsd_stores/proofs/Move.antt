@@ -43,6 +43,11 @@ laid-long theNames l b n = refl
 
 -- The header
 
+-- the words lie in the header's bytes 8 to 39
+in-layout : (k : Block) → (8 ≤ headerPlace k) × (headerPlace k + 16 ≤ 40)
+in-layout theIndex = (omega arith, omega arith)
+in-layout theNames = (omega arith, omega arith)
+
 -- y is x but for the block's two words in the header, which say b and n
 pub record Headed (k : Block) (x y : List ℕ) (b n : ℕ) : Type 0 where
   pub long : length y ≡ length x
@@ -72,16 +77,19 @@ headed-count {k} {x} {y} {z} l h o = record {
   count = word-in l o;
 }
 
+headed-version : {k : Block} {x y : List ℕ} {b n : ℕ} → Headed k x y b n → le 4 y 44 ≡ le 4 x 44
+headed-version {k} {x} {y} h = le-same 4 y 44 x 44 (λ i m. h .outside (44 + i) (λ c e. omega (arith, in-layout k)))
+
 headed-layout : (k : Block) {x y : List ℕ} {b n : ℕ} → Headed k x y b n → layoutOf y ≡ laid k (layoutOf x) b n
 unfolding layoutOf
 headed-layout theIndex {x} {y} h =
     let namelist : le 8 y 24 ≡ le 8 x 24 = le-same 8 y 24 x 24 (λ i m. h .outside (24 + i) (λ c e. omega arith)) in
     let segments : le 8 y 32 ≡ le 8 x 32 = le-same 8 y 32 x 32 (λ i m. h .outside (32 + i) (λ c e. omega arith)) in
-    λ i. record { len = h .long i; index = h .start i; slots = h .count i; namelist = namelist i; segments = segments i }
+    λ i. record { len = h .long i; version = headed-version h i; index = h .start i; slots = h .count i; namelist = namelist i; segments = segments i }
 headed-layout theNames {x} {y} h =
     let index : le 8 y 8 ≡ le 8 x 8 = le-same 8 y 8 x 8 (λ i m. h .outside (8 + i) (λ c e. omega arith)) in
     let slots : le 8 y 16 ≡ le 8 x 16 = le-same 8 y 16 x 16 (λ i m. h .outside (16 + i) (λ c e. omega arith)) in
-    λ i. record { len = h .long i; index = index i; slots = slots i; namelist = h .start i; segments = h .count i }
+    λ i. record { len = h .long i; version = headed-version h i; index = index i; slots = slots i; namelist = h .start i; segments = h .count i }
 
 old-count : (k : Block) (x : List ℕ) → le 8 x (headerPlace k + 8) ≡ countIn k (layoutOf x)
 unfolding layoutOf
@@ -89,11 +97,6 @@ old-count theIndex x = refl
 old-count theNames x = refl
 
 -- The move
-
--- the words lie in the header's bytes 8 to 39
-in-layout : (k : Block) → (8 ≤ headerPlace k) × (headerPlace k + 16 ≤ 40)
-in-layout theIndex = (omega arith, omega arith)
-in-layout theNames = (omega arith, omega arith)
 
 -- the words of a slot, of a segment
 abbrev pub wordsIn : Block → ℕ

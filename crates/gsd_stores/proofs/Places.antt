@@ -1,15 +1,17 @@
--- Where stores lie: at a multiple of 8 inside the slice, and outside the header but for its words 8, 16, 24 and 32.
-use Prim.Native.Nat.{ℕ, _+_, _*_, _-_, _/_, _%_, _≤_, _<_}
-use mathlib.Core.Path.{_≡_, refl, ap}
+-- Where stores lie: eight bytes at a multiple of 8 inside the slice, and outside the header but for its words 8, 16, 24 and 32.
+-- So an append keeps all else that the header says, the version too.
+use Prim.Native.Nat.{ℕ, zero, suc, _+_, _*_, _-_, _/_, _%_, _≤_, _<_}
+use mathlib.Core.Path.{_≡_, refl, sym, _∙_, ap}
 use mathlib.Core.Logic.{_⊎_, inl, inr}
 use mathlib.Core.Bool.{Bool, true, false}
 use mathlib.Core.List.{List, [], _∷_, _++_}
 use native.Mathlib.Omega.{arith}
-use lib.ListN.{length}
+use lib.ListN.{length, getD, take}
 use Rattle.gsd_format.specs.Bytes.{leBytes, part}
-use Rattle.gsd_format.specs.Header.{headerSize}
+use Rattle.gsd_format.specs.Header.{headerSize, versionOf}
 use Rattle.gsd_format.specs.Names.{flat}
-use Rattle.gsd_format.proofs.Lists.{Each, each-append}
+use Rattle.gsd_format.proofs.Lists.{Each, each-append, each-take, each-so}
+use Rattle.gsd_format.proofs.Bytes.{le-same}
 use Rattle.gsd_format.proofs.Names.{Named, flat-none, flat-size, flat-sizes}
 use Rattle.gsd_stores.specs.Stores.{Store, words, up}
 use Rattle.gsd_stores.specs.View.{View, viewOf, aligned, entriesEnd, namesEnd, namelistEnd}
@@ -17,15 +19,16 @@ use Rattle.gsd_stores.specs.Sheet.{Row, rowsOf}
 use Rattle.gsd_stores.specs.Plan.{Plan, endFrom, planOf, dataEnd, namesStart, namesDone, indexStart}
 use Rattle.gsd_stores.specs.Steps.{clearIndex, clearNames, storeTexts, storeData, moved, moveNames, storeName, storeNames}
 use Rattle.gsd_stores.specs.Steps.{moveIndex, storeEntries, nameBlock, indexBlock, indexBytes, stepsOf}
-use Rattle.gsd_stores.specs.Append.{appendTest, storesFor}
+use Rattle.gsd_stores.specs.Append.{appendTest, storesFor, appended}
 use Rattle.gsd_stores.specs.Runs.{Bytes}
-use Rattle.gsd_stores.proofs.Stores.{Fills, up-fills, down-fills, slots-fills, fills-stores}
+use Rattle.gsd_stores.proofs.Stores.{Fills, up-fills, down-fills, slots-fills, fills-stores, Misses, after-off}
 use Rattle.gsd_stores.proofs.Texts.{end-more}
 use Rattle.gsd_stores.proofs.View.{Is, is-long}
 use Rattle.gsd_stores.proofs.Plan.{positions, chosen, taken, segmentsAfter}
 use Rattle.gsd_stores.proofs.Valid.{Valid, valid, Ready, ready}
 use Rattle.gsd_stores.proofs.Shown.{opens-shown}
 use Rattle.gsd_stores.proofs.Moments.{stores-are}
+use Rattle.gsd_stores.proofs.Limits.{stopped, refused-image}
 
 -- the words of the header that an append stores
 abbrev pub HeaderWord : ℕ → Type 0
@@ -33,6 +36,7 @@ HeaderWord a = (a ≡ 8) ⊎ ((a ≡ 16) ⊎ ((a ≡ 24) ⊎ (a ≡ 32)))
 
 -- a store in a slice of so many bytes
 pub record Placed (len : ℕ) (s : Store) : Type 0 where
+  pub eight : length (s .bytes) ≡ 8
   pub even : s .place % 8 ≡ 0
   pub inside : s .place + 8 ≤ len
   pub outside : s .place < headerSize → HeaderWord (s .place)
@@ -48,12 +52,12 @@ _⊹_ {len} {xs} {ys} h g = record { each = each-append (Placed len) xs ys (h .e
 -- words behind the header
 placed-extent : {lo n : ℕ} {l : List ℕ} (len : ℕ) → Fills lo n l → (t : List ℕ) (base : ℕ) → lo % 8 ≡ 0 → headerSize ≤ lo → lo + 8 * n ≤ len → AllPlaced len (words t base l)
 placed-extent len f t base e h g = record {
-  each = fills-stores (Placed len) f t base (λ k l. record { even = omega arith; inside = omega arith; outside = λ o. absurd (omega arith) });
+  each = fills-stores (Placed len) f t base (λ k l. record { eight = refl; even = omega arith; inside = omega arith; outside = λ o. absurd (omega arith) });
 }
 
 placed-word : (len : ℕ) (t : List ℕ) (a : ℕ) → headerSize ≤ len → a % 8 ≡ 0 → a ≤ 32 → HeaderWord a → AllPlaced len (words t a (up a 1))
 unfolding words up
-placed-word len t a h e b w = record { each = (record { even = e; inside = omega arith; outside = λ o. w }, tt) }
+placed-word len t a h e b w = record { each = (record { eight = refl; even = e; inside = omega arith; outside = λ o. w }, tt) }
 
 -- a block that moves, and its two header words
 placed-moved : (flag : Bool) (len b n : ℕ) (t : List ℕ) (h count : ℕ) → b % 8 ≡ 0 → headerSize ≤ b → (flag ≡ true → b + 8 * n ≤ len) → headerSize ≤ len →
@@ -162,3 +166,27 @@ pub stores-placed : (x s : List ℕ) → Bytes s → appendTest x s ≡ 0 → Al
 stores-placed x s o h =
     let ok : Valid x (rowsOf s) = valid x s o h in
     rw (stores-are x s h, is-long (is x (rowsOf s) ok)) (all-placed x (rowsOf s) ok)
+
+-- a place of the header that is in none of these four words
+placed-off : (len : ℕ) (s : Store) (p : ℕ) → p < headerSize → (8 ≤ p → p < 40 → ⊥) → Placed len s → Misses p (s .place)
+placed-off len s p h o a c e = o (omega (arith, low (a .outside (omega arith)))) (omega (arith, low (a .outside (omega arith))))
+  where
+    low : HeaderWord (s .place) → (8 ≤ s .place) × (s .place ≤ 32)
+    low (inl z) = (omega arith, omega arith)
+    low (inr (inl z)) = (omega arith, omega arith)
+    low (inr (inr (inl z))) = (omega arith, omega arith)
+    low (inr (inr (inr z))) = (omega arith, omega arith)
+
+-- is kept by every append, refused, stopped or whole
+pub header-kept : (x s : List ℕ) (limit p : ℕ) → Bytes s → p < headerSize → (8 ≤ p → p < 40 → ⊥) → getD (appended x s limit) p 0 ≡ getD x p 0
+header-kept x s limit p o h f = go (appendTest x s) refl
+  where
+    go : (n : ℕ) → appendTest x s ≡ n → getD (appended x s limit) p 0 ≡ getD x p 0
+    go zero e =
+        ap (λ y. getD y p 0) (sym (stopped x s limit))
+        ∙ after-off x p (take limit (storesFor x s)) (each-take _ limit (storesFor x s)
+        (each-so _ _ (λ a b. (b .eight, placed-off (length x) a p h f b)) (storesFor x s) (stores-placed x s o e .each)))
+    go (suc n) e = ap (λ y. getD y p 0) (refused-image x s limit n e)
+
+pub version-kept : (x s : List ℕ) (limit : ℕ) → Bytes s → versionOf (appended x s limit) ≡ versionOf x
+version-kept x s limit o = le-same 4 (appended x s limit) 44 x 44 (λ k l. header-kept x s limit (44 + k) o (omega arith) (λ a b. omega arith))

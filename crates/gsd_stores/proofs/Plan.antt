@@ -111,7 +111,14 @@ abbrev pub slotsAfter : View → Plan → ℕ
 slotsAfter v p = cond (p .indexMoves) (p .slots) (v .layout .slots)
 
 abbrev pub layoutAfter : View → Plan → Layout
-layoutAfter v p = record { len = v .layout .len; index = indexBlock v p; slots = slotsAfter v p; namelist = nameBlock v p; segments = segmentsAfter v p }
+layoutAfter v p = record {
+  len = v .layout .len;
+  version = v .layout .version;
+  index = indexBlock v p;
+  slots = slotsAfter v p;
+  namelist = nameBlock v p;
+  segments = segmentsAfter v p;
+}
 
 abbrev pub entriesAfter : View → Plan → List Entry
 entriesAfter v p = v .entries ++ p .entries

@@ -1,14 +1,14 @@
 -- Laws of the append sheet: where each row's name and data lie in it, when it is accepted, and what then holds of every row.
 use Prim.Native.Nat.{ℕ, zero, suc, _+_, _*_, _^_, _≤_, _<_}
 use mathlib.Core.Path.{_≡_, refl, sym, _∙_, ap}
-use mathlib.Core.Bool.{false, not, _||_}
+use mathlib.Core.Bool.{true, false, not, _||_}
 use mathlib.Core.List.{List, [], _∷_}
 use native.Mathlib.Nat.{zero-add}
 use native.Mathlib.Decide.{ℕ-discrete}
 use native.Mathlib.Omega.{arith}
 use lib.ListN.{length, getD}
 use lib.Dec.{ltb, eqb}
-use borrow.Author.Tests.{ltb-true, ltb-false, eqb-true, eqb-false, not-false, lt-ltb, le-ltb, eq-eqb, ne-eqb}
+use borrow.Author.Tests.{ltb-false, eqb-true, eqb-false, not-false, le-ltb, eq-eqb, ne-eqb}
 use Rattle.gsd_format.specs.Bytes.{le, part, zeroIn}
 use Rattle.gsd_format.specs.Types.{sizeOf, known}
 use Rattle.gsd_format.proofs.Lists.{Each, each-at, at-each, map-each, each-map}
@@ -121,37 +121,37 @@ module _ (s : List ℕ) (exact : Exact s) (i : ℕ) (l : i < rowCount s) where
 -- When a sheet is accepted
 
 -- 24
-pub record GoodRow (s : List ℕ) (t : ℕ) : Type 0 where
-  pub known : 0 < sizeOf (rowKind s t)
+pub record GoodRow (version : ℕ) (s : List ℕ) (t : ℕ) : Type 0 where
+  pub typed : known version (rowKind s t) ≡ true
   pub named : 0 < nameSize s t
   pub zeros : le 2 s (t + 14) ≡ 0
 
-pub good-row : (s : List ℕ) (t : ℕ) → badRow s t ≡ false → GoodRow s t
-good-row s t h =
-    let parts : (((not (known (rowKind s t)) || eqb (nameSize s t) 0) ≡ false) × (not (eqb (le 2 s (t + 14)) 0) ≡ false)) = neither _ _ h in
-    let first : ((not (known (rowKind s t)) ≡ false) × (eqb (nameSize s t) 0 ≡ false)) = neither _ _ (parts .0) in
+pub good-row : (version : ℕ) (s : List ℕ) (t : ℕ) → badRow version s t ≡ false → GoodRow version s t
+good-row version s t h =
+    let parts : (((not (known version (rowKind s t)) || eqb (nameSize s t) 0) ≡ false) × (not (eqb (le 2 s (t + 14)) 0) ≡ false)) = neither _ _ h in
+    let first : ((not (known version (rowKind s t)) ≡ false) × (eqb (nameSize s t) 0 ≡ false)) = neither _ _ (parts .0) in
     let some : (nameSize s t ≡ 0 → ⊥) = eqb-false _ _ (first .1) in
-    record { known = ltb-true _ _ (not-false _ (first .0)); named = omega arith; zeros = eqb-true _ _ (not-false _ (parts .1)) }
+    record { typed = not-false _ (first .0); named = omega arith; zeros = eqb-true _ _ (not-false _ (parts .1)) }
 
-pub row-good : (s : List ℕ) (t : ℕ) → GoodRow s t → badRow s t ≡ false
-row-good s t h =
-    neither-of (not (known (rowKind s t)) || eqb (nameSize s t) 0) _
-    (neither-of (not (known (rowKind s t))) _ (not-of _ (lt-ltb _ _ (h .known))) (ne-eqb (nameSize s t) 0 (λ e. omega arith)))
+pub row-good : (version : ℕ) (s : List ℕ) (t : ℕ) → GoodRow version s t → badRow version s t ≡ false
+row-good version s t h =
+    neither-of (not (known version (rowKind s t)) || eqb (nameSize s t) 0) _
+    (neither-of (not (known version (rowKind s t))) _ (not-of _ (h .typed)) (ne-eqb (nameSize s t) 0 (λ e. omega arith)))
     (not-of _ (eq-eqb _ _ (h .zeros)))
 
-pub good-table : (n : ℕ) (s : List ℕ) (t : ℕ) → badTable s t n ≡ false → (i : ℕ) → i < n → GoodRow s (rowPlace t i)
+pub good-table : (version n : ℕ) (s : List ℕ) (t : ℕ) → badTable version s t n ≡ false → (i : ℕ) → i < n → GoodRow version s (rowPlace t i)
 unfolding badTable
-good-table zero s t h i l = absurd (omega arith)
-good-table (suc n) s t h zero l = let e : t ≡ rowPlace t 0 = omega arith in rw e at (good-row s t (neither (badRow s t) _ h .0))
-good-table (suc n) s t h (suc i) l =
-    let e : rowPlace (t + 16) i ≡ rowPlace t (suc i) = omega arith in rw e at (good-table n s (t + 16) (neither (badRow s t) _ h .1) i (omega arith))
+good-table version zero s t h i l = absurd (omega arith)
+good-table version (suc n) s t h zero l = let e : t ≡ rowPlace t 0 = omega arith in rw e at (good-row version s t (neither (badRow version s t) _ h .0))
+good-table version (suc n) s t h (suc i) l =
+    let e : rowPlace (t + 16) i ≡ rowPlace t (suc i) = omega arith in rw e at (good-table version n s (t + 16) (neither (badRow version s t) _ h .1) i (omega arith))
 
-pub table-good : (n : ℕ) (s : List ℕ) (t : ℕ) → ((i : ℕ) → i < n → GoodRow s (rowPlace t i)) → badTable s t n ≡ false
+pub table-good : (version n : ℕ) (s : List ℕ) (t : ℕ) → ((i : ℕ) → i < n → GoodRow version s (rowPlace t i)) → badTable version s t n ≡ false
 unfolding badTable
-table-good zero s t h = refl
-table-good (suc n) s t h =
-    neither-of _ _ (row-good s t (let e : rowPlace t 0 ≡ t = omega arith in rw e at (h 0 (omega arith))))
-    (table-good n s (t + 16) (λ i l. let e : rowPlace t (suc i) ≡ rowPlace (t + 16) i = omega arith in rw e at (h (suc i) (omega arith))))
+table-good version zero s t h = refl
+table-good version (suc n) s t h =
+    neither-of _ _ (row-good version s t (let e : rowPlace t 0 ≡ t = omega arith in rw e at (h 0 (omega arith))))
+    (table-good version n s (t + 16) (λ i l. let e : rowPlace t (suc i) ≡ rowPlace (t + 16) i = omega arith in rw e at (h (suc i) (omega arith))))
 
 -- 26
 full-names : (ns : List (List ℕ)) → anyZero ns ≡ false → Each (λ b. zeroIn b 0 (length b) ≡ false) ns
@@ -164,19 +164,19 @@ unfolding anyZero
 names-full [] h = refl
 names-full (b ∷ ns) h = neither-of (zeroIn b 0 (length b)) _ (h .0) (names-full ns (h .1))
 
-pub record Accepted (s : List ℕ) : Type 0 where
+pub record Accepted (version : ℕ) (s : List ℕ) : Type 0 where
   pub long : 4 ≤ length s
   pub some : 0 < rowCount s
   pub few : rowCount s ≤ mostRows
   pub table : tableEnd s ≤ length s
-  pub rows : (i : ℕ) → i < rowCount s → GoodRow s (rowAt i)
+  pub rows : (i : ℕ) → i < rowCount s → GoodRow version s (rowAt i)
   pub exact : Exact s
   pub full : (i : ℕ) → i < rowCount s → Full s (nameAt s i) (nameSize s (rowAt i))
   pub distinct : Distinct (rowNames (rowsOf s))
 
-pub accepted : (s : List ℕ) → sheetTest s ≡ 0 → Accepted s
+pub accepted : (version : ℕ) (s : List ℕ) → sheetTest version s ≡ 0 → Accepted version s
 unfolding sheetTest
-accepted s h =
+accepted version s h =
     let from22 = both _ _ h in
     let from23 = both _ _ (from22 .1) in
     let from24 = both _ _ (from23 .1) in
@@ -193,19 +193,19 @@ accepted s h =
       some = omega arith;
       few = ltb-false _ _ (count .1);
       table = not-less _ _ _ (from23 .0);
-      rows = good-table (rowCount s) s 4 (unmet _ _ (from24 .0));
+      rows = good-table version (rowCount s) s 4 (unmet _ _ (from24 .0));
       exact = exact;
       full = λ i l. no-zero s (nameAt s i) (nameSize s (rowAt i)) (sym (name-zero s exact i l) ∙ each-at _ (rowsOf s) noRow full i (rw rows-count l));
       distinct = twins-distinct (rowNames (rowsOf s)) (unmet _ _ (from26 .1));
     }
 
-pub accepts : (s : List ℕ) → Accepted s → sheetTest s ≡ 0
+pub accepts : (version : ℕ) (s : List ℕ) → Accepted version s → sheetTest version s ≡ 0
 unfolding sheetTest
-accepts s h =
+accepts version s h =
     none-of _ _ (passed _ _ (neither-of (ltb (length s) 4 || eqb (rowCount s) 0) _
     (neither-of (ltb (length s) 4) _ (le-ltb _ _ (h .long)) (ne-eqb (rowCount s) 0 (λ e. omega arith))) (le-ltb _ _ (h .few))))
     (none-of _ _ (less-no _ _ _ (h .table))
-    (none-of _ _ (passed _ _ (table-good (rowCount s) s 4 (h .rows)))
+    (none-of _ _ (passed _ _ (table-good version (rowCount s) s 4 (h .rows)))
     (none-of _ _ (differ-no _ _ _ (h .exact ∙ sym (bodies-end (rowCount s) s 4 (tableEnd s))))
     (none-of _ _ (passed _ _ (names-full (rowNames (rowsOf s)) (each-map _ (λ r. r .name) (rowsOf s) (at-each _ (rowsOf s) noRow full))))
     (passed _ _ (distinct-twins (rowNames (rowsOf s)) (h .distinct)))))))
@@ -215,32 +215,30 @@ accepts s h =
 
 -- The rows of an accepted sheet
 
-pub record RowOk (r : Row) : Type 0 where
+-- fit for an image of this version
+pub record RowOk (version : ℕ) (r : Row) : Type 0 where
   pub named : Named (r .name)
   pub short : length (r .name) ≤ 255
-  pub known : 0 < sizeOf (r .kind)
+  pub typed : known version (r .kind) ≡ true
   pub size : length (r .body) ≡ r .n * r .m * sizeOf (r .kind)
   pub fitN : r .n < 2 ^ 64
   pub fitM : r .m < 2 ^ 32
   pub fitKind : r .kind < 256
 
-abbrev pub RowsOk : List Row → Type 0
-RowsOk rs = (i : ℕ) → i < length rs → RowOk (getD rs i noRow)
+abbrev pub RowsOk : ℕ → List Row → Type 0
+RowsOk version rs = (i : ℕ) → i < length rs → RowOk version (getD rs i noRow)
 
-pub row-named : (s : List ℕ) → Accepted s → (i : ℕ) → i < rowCount s → Named (getD (rowsOf s) i noRow .name)
-row-named s ok i l = rw (row-at s i l) (part-named s (nameAt s i) (nameSize s (rowAt i)) (ok .rows i l .named) (ok .full i l))
-
-pub row-known : (s : List ℕ) → Accepted s → (i : ℕ) → i < rowCount s → 0 < sizeOf (getD (rowsOf s) i noRow .kind)
-row-known s ok i l = rw (row-at s i l) (ok .rows i l .known)
+pub row-named : (version : ℕ) (s : List ℕ) → Accepted version s → (i : ℕ) → i < rowCount s → Named (getD (rowsOf s) i noRow .name)
+row-named version s ok i l = rw (row-at s i l) (part-named s (nameAt s i) (nameSize s (rowAt i)) (ok .rows i l .named) (ok .full i l))
 
 -- a sheet of bytes
-pub rows-ok : (s : List ℕ) → Octets s → Accepted s → RowsOk (rowsOf s)
-rows-ok s h ok i l =
+pub rows-ok : (version : ℕ) (s : List ℕ) → Octets s → Accepted version s → RowsOk version (rowsOf s)
+rows-ok version s h ok i l =
     let m : i < rowCount s = rw (rows-count s) at l in
     record {
-      named = row-named s ok i m;
+      named = row-named version s ok i m;
       short = omega (arith, name-length s (ok .exact) i m, h (rowAt i + 13));
-      known = row-known s ok i m;
+      typed = rw (row-at s i m) (ok .rows i m .typed);
       size = body-size s (ok .exact) i m;
       fitN = rw (row-at s i m) (le-bound 8 s (rowAt i) h);
       fitM = rw (row-at s i m) (le-bound 4 s (rowAt i + 8) h);

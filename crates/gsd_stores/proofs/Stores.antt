@@ -293,14 +293,19 @@ Off p l = Each (Misses p) l
 abbrev pub Within : ℕ → ℕ → List ℕ → Type 0
 Within base n l = Each (λ a. (base ≤ a) × (a + 8 ≤ n)) l
 
-pub words-off : (img t : List ℕ) (base p : ℕ) (l : List ℕ) → Off p l → getD (after img (words t base l)) p 0 ≡ getD img p 0
-unfolding after words
-words-off img t base p [] e = refl
-words-off img t base p (a ∷ l) e = words-off (stored img a (eightOf t (a - base))) t base p l (e .1) ∙ outside (decLt p a)
+-- stores that miss p leave it alone
+pub after-off : (img : List ℕ) (p : ℕ) (xs : List Store) → Each (λ s. (length (s .bytes) ≡ 8) × Misses p (s .place)) xs → getD (after img xs) p 0 ≡ getD img p 0
+unfolding after
+after-off img p [] e = refl
+after-off img p (s ∷ ss) e = after-off (stored img (s .place) (s .bytes)) p ss (e .1) ∙ outside (decLt p (s .place)) (decLt p (s .place + 8))
   where
-    outside : Dec (p < a) → getD (stored img a (eightOf t (a - base))) p 0 ≡ getD img p 0
-    outside (yes b) = stored-below img a (eightOf t (a - base)) p b
-    outside (no b) = stored-above img a (eightOf t (a - base)) p (elim (decLt p (a + 8)) [ yes c ↦ absurd (e .0 (omega arith) c) | no c ↦ omega arith ])
+    outside : Dec (p < s .place) → Dec (p < s .place + 8) → getD (stored img (s .place) (s .bytes)) p 0 ≡ getD img p 0
+    outside (yes b) c = stored-below img (s .place) (s .bytes) p b
+    outside (no b) (yes c) = absurd (e .0 .1 (omega arith) c)
+    outside (no b) (no c) = stored-above img (s .place) (s .bytes) p (omega (arith, e .0 .0))
+
+pub words-off : (img t : List ℕ) (base p : ℕ) (l : List ℕ) → Off p l → getD (after img (words t base l)) p 0 ≡ getD img p 0
+words-off img t base p l e = after-off img p (words t base l) (each-words _ t base l (each-so _ _ (λ a m. (refl, m)) l e))
 
 -- a place that has the text's byte keeps it
 pub words-keep : (img t : List ℕ) (base n p : ℕ) (l : List ℕ) → n ≤ length img → Within base n l → getD img p 0 ≡ getD t (p - base) 0 →

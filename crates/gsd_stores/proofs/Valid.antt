@@ -11,7 +11,7 @@ use borrow.Author.Tests.{eqb-true, not-false}
 use Rattle.gsd_format.specs.declared.Entry.{Entry}
 use Rattle.gsd_format.specs.declared.Layout.{Layout}
 use Rattle.gsd_format.specs.Bytes.{part, Apart}
-use Rattle.gsd_format.specs.Types.{sizeOf, chunkSize}
+use Rattle.gsd_format.specs.Types.{known, chunkSize}
 use Rattle.gsd_format.specs.Header.{greatestLength, layoutOf}
 use Rattle.gsd_format.specs.Names.{namesOf, Distinct}
 use Rattle.gsd_format.specs.Entries.{entriesOf, key, framesFrom, framesOf}
@@ -42,7 +42,7 @@ pub record Valid (x : List ℕ) (rs : List Row) : Type 0 where
   pub evenNames : viewOf x .layout .namelist % 8 ≡ 0
   pub some : 0 < length rs
   pub few : length rs ≤ mostRows
-  pub rows : RowsOk rs
+  pub rows : RowsOk (viewOf x .layout .version) rs
   pub distinct : Distinct (rowNames rs)
   pub fewNames : length (viewOf x .names) + length (newNames (viewOf x .names) rs) ≤ mostNames
   pub fits : finalPosition (planOf (viewOf x) rs) ≤ viewOf x .layout .len
@@ -62,14 +62,14 @@ valid x s o h =
     let from22 = both _ _ (from21 .1) in
     let from28 = both _ _ (from22 .1) in
     let even = image-even (viewOf x .layout) (from21 .0) in
-    let ok : Accepted s = accepted s (from22 .0) in
+    let ok : Accepted (viewOf x .layout .version) s = accepted _ s (from22 .0) in
     record {
       opens = from1 .0;
       evenIndex = even .0;
       evenNames = even .1;
       some = omega (arith, rows-count s, ok .some);
       few = omega (arith, rows-count s, ok .few);
-      rows = rows-ok s o ok;
+      rows = rows-ok _ s o ok;
       distinct = ok .distinct;
       fewNames = not-less _ _ _ (from28 .0);
       fits = not-less _ _ _ (from28 .1);
@@ -84,11 +84,11 @@ pub record NewSound (v : View) (p : Plan) (e : Entry) : Type 0 where
   pub behind : p .start ≤ e .location
   pub even : e .location % 8 ≡ 0
   pub high : e .location + chunkSize e ≤ dataEnd p
-  pub known : 0 < sizeOf (e .kind)
+  pub typed : known (v .layout .version) (e .kind) ≡ true
   pub id : e .id < length (namesAfter v p)
   pub flags : e .flags ≡ 0
 
-module _ (v : View) (rs : List Row) (p : Plan) (plan : Planned v rs p) (ok : RowsOk rs) where
+module _ (v : View) (rs : List Row) (p : Plan) (plan : Planned v rs p) (ok : RowsOk (v .layout .version) rs) where
   row-sound : (i : ℕ) → i < length rs → NewSound v p (rowEntry v rs p i)
   row-sound i l = record {
     frame = refl;
@@ -96,7 +96,7 @@ module _ (v : View) (rs : List Row) (p : Plan) (plan : Planned v rs p) (ok : Row
     behind = place-low (p .start) rs i;
     even = omega arith;
     high = omega (arith, ok i l .size, place-inside rs (p .start) i l, ap (endFrom (p .start)) (plan .body));
-    known = ok i l .known;
+    typed = ok i l .typed;
     id = rw (plan .fresh) (all-has (v .names) rs i l);
     flags = refl;
   }
@@ -179,15 +179,15 @@ module _ (v : View) (rs : List Row) (p : Plan) (plan : Planned v rs p) (fits : f
       }
 
   -- an entry whose chunk ends with the data or before, apart from the blocks, is sound with the blocks as they then lie
-  sound-after : (names : ℕ) (e : Entry) → 256 ≤ e .location → 0 < sizeOf (e .kind) → e .id < names → e .location + chunkSize e ≤ dataEnd p →
+  sound-after : (names : ℕ) (e : Entry) → 256 ≤ e .location → known (v .layout .version) (e .kind) ≡ true → e .id < names → e .location + chunkSize e ≤ dataEnd p →
       Apart (e .location) (chunkSize e) (v .layout .index) (32 * v .layout .slots) →
       Apart (e .location) (chunkSize e) (v .layout .namelist) (64 * v .layout .segments) → Sound (layoutAfter v p) names e
-  sound-after names e low known id high offIndex offNames =
+  sound-after names e low typed id high offIndex offNames =
       let l : Layout = v .layout in
       record {
         low = low;
         high = omega (arith, positions p);
-        typed = known;
+        typed = typed;
         named = id;
         within = omega (arith, positions p);
         offIndex = apart-block (p .indexMoves) 32 (indexStart p) (p .slots) (l .index) (l .slots) (e .location) (chunkSize e) offIndex
@@ -201,10 +201,10 @@ module _ (v : View) (rs : List Row) (p : Plan) (plan : Planned v rs p) (fits : f
       sound-after (length (namesAfter v p)) (getD (v .entries) i none) (s .low) (s .typed) (omega (arith, length-append (v .names) (p .fresh)))
       (omega (arith, plan .room .chunks i l, end-more (p .body) (p .start))) (s .offIndex) (s .offNames)
 
-  pub new-after : RowsOk rs → AllSound (layoutAfter v p) (length (namesAfter v p)) (p .entries)
+  pub new-after : RowsOk (v .layout .version) rs → AllSound (layoutAfter v p) (length (namesAfter v p)) (p .entries)
   new-after ok j l =
       let s : NewSound v p (getD (p .entries) j none) = new-sound v rs p plan ok j l in
-      sound-after (length (namesAfter v p)) (getD (p .entries) j none) (s .low) (s .known) (s .id) (s .high)
+      sound-after (length (namesAfter v p)) (getD (p .entries) j none) (s .low) (s .typed) (s .id) (s .high)
       (λ q a b c d. omega (arith, plan .room .index)) (λ q a b c d. omega (arith, plan .room .names))
 
 -- An accepted append is ready to be stored

@@ -28,10 +28,10 @@ use Rattle.gsd_stores.proofs.Phases.{Phase, phase-up}
 
 -- the index block or the name block elsewhere
 abbrev pub indexLaid : Layout → ℕ → ℕ → Layout
-indexLaid l b n = record { len = l .len; index = b; slots = n; namelist = l .namelist; segments = l .segments }
+indexLaid l b n = record { len = l .len; version = l .version; index = b; slots = n; namelist = l .namelist; segments = l .segments }
 
 abbrev pub namesLaid : Layout → ℕ → ℕ → Layout
-namesLaid l b n = record { len = l .len; index = l .index; slots = l .slots; namelist = b; segments = n }
+namesLaid l b n = record { len = l .len; version = l .version; index = l .index; slots = l .slots; namelist = b; segments = n }
 
 -- v in another layout, with a block elsewhere, with other names, with more entries
 abbrev pub withLayout : View → Layout → View

@@ -32,7 +32,7 @@ unfoldable pub appendTest : List ℕ → List ℕ → ℕ
 appendTest img sheet =
     verdict img
     ▹ imageTest (viewOf img .layout)
-    ▹ sheetTest sheet
+    ▹ sheetTest (viewOf img .layout .version) sheet
     ▹ planTest img sheet
 
 -- the stores of an append; a refused one makes none

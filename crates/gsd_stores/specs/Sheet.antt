@@ -44,13 +44,14 @@ rowSpare s t = le 2 s (t + 14)
 unfoldable pub bodySize : List ℕ → ℕ → ℕ
 bodySize s t = rowN s t * rowM s t * sizeOf (rowKind s t)
 
-abbrev pub badRow : List ℕ → ℕ → Bool
-badRow s t = not (known (rowKind s t)) || eqb (nameSize s t) 0 || not (eqb (rowSpare s t) 0)
+-- is the row at t bad for an image of this version?
+abbrev pub badRow : ℕ → List ℕ → ℕ → Bool
+badRow version s t = not (known version (rowKind s t)) || eqb (nameSize s t) 0 || not (eqb (rowSpare s t) 0)
 
 -- is one of the n rows from t bad?
-unfoldable pub badTable : List ℕ → ℕ → ℕ → Bool
-badTable s t zero = false
-badTable s t (suc n) = badRow s t || badTable s (t + rowSize) n
+unfoldable pub badTable : ℕ → List ℕ → ℕ → ℕ → Bool
+badTable version s t zero = false
+badTable version s t (suc n) = badRow version s t || badTable version s (t + rowSize) n
 
 -- where the bodies of the n rows from t end, if the first of them begins at q
 unfoldable pub bodiesEnd : List ℕ → ℕ → ℕ → ℕ → ℕ
@@ -108,11 +109,12 @@ anyZero (n ∷ ns) = zeroIn n 0 (length n) || anyZero ns
 abbrev pub mostRows : ℕ
 mostRows = 64
 
-unfoldable pub sheetTest : List ℕ → ℕ
-sheetTest s =
+-- 22 to 27, for an image of this version
+unfoldable pub sheetTest : ℕ → List ℕ → ℕ
+sheetTest version s =
     (ltb (length s) tableStart || eqb (rowCount s) 0 || ltb mostRows (rowCount s) ⇒ 22)
     ▹ (ltb (length s) (tableEnd s) ⇒ 23)
-    ▹ (badTable s tableStart (rowCount s) ⇒ 24)
+    ▹ (badTable version s tableStart (rowCount s) ⇒ 24)
     ▹ (not (eqb (length s) (bodiesEnd s tableStart (tableEnd s) (rowCount s))) ⇒ 25)
     ▹ (anyZero (rowNames (rowsOf s)) ⇒ 26)
     ▹ (twins (rowNames (rowsOf s)) ⇒ 27)

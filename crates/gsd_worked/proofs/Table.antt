@@ -4,12 +4,13 @@ use mathlib.Core.Bool.{true}
 use Rattle.gsd_format.specs.Bytes.{le, leBytes, same, zeroIn, stored}
 use Rattle.gsd_format.specs.Ascii.{ascii}
 use Rattle.gsd_format.specs.Refusals.{_⇒_, _▹_}
-use Rattle.gsd_format.specs.Types.{sizeOf}
+use Rattle.gsd_format.specs.Types.{sizeOf, lastType}
 use Rattle.gsd_format.specs.Header.{layoutOf}
 use Rattle.gsd_format.specs.Names.{partsAt, nameParts, namesOf, flat, indexOf}
 use Rattle.gsd_format.specs.Entries.{entryAt, entriesAt, entriesOf, framesFrom, chunksEnd}
 use Rattle.gsd_format.specs.Opening.{headerTest, blocksTest, twins, namesTest, entryTest, entriesTest, verdict, countsOf, opening}
 use Rattle.gsd_format.specs.Lookup.{nthEntry, nthName, findEntry, lookupIn, lookup, placed, chunkPlace, bytesAt}
+use Rattle.gsd_format.specs.Elements.{elementOf, elementIn, element}
 use Rattle.gsd_format.specs.Create.{orDefault, createTest, freshHeader, fresh, createNumber, created}
 use Rattle.gsd_format.specs.Listing.{digits, decimal, fields, entryLine, entryLines, countsLine, listing, printed}
 use Rattle.gsd_format.specs.Answers.{openingNumber, openingValues, listedNumber, listedValues, placeNumber, placeValues, elementNumber, bits64, elementValues}
@@ -20,10 +21,10 @@ use Rattle.gsd_stores.specs.Plan.{bodies, endFrom, newNames, newEntries, insert
 use Rattle.gsd_stores.specs.Steps.{clearIndex, clearNames, storeTexts, moved, moveNames, storeName, storeNames, moveIndex, entryBytes, indexBytes, storeEntries, stepsOf, storeList}
 use Rattle.gsd_stores.specs.Append.{imageTest, planTest, appendTest, storesFor, appendAnswer, appended}
 use Rattle.gsd_stores.specs.Runs.{afterRun, lastStoreMade, completed}
-use Rattle.gsd_worked.specs.Table.{tableRow, sheetA, sheetB, freshIn, createdIn, stepCounts, shown, table, passes}
+use Rattle.gsd_worked.specs.Table.{tableRow, sheetA, sheetB, sheetOf, freshIn, createdIn, inVersion, stepCounts, shown, table, versions, passes}
 
-pub starred : passes table ≡ true
-unfolding le leBytes same zeroIn stored ascii _⇒_ _▹_ sizeOf layoutOf partsAt nameParts namesOf flat indexOf entryAt
+pub worked : (passes table ≡ true) × (passes versions ≡ true)
+unfolding le leBytes same zeroIn stored ascii _⇒_ _▹_ sizeOf lastType layoutOf partsAt nameParts namesOf flat indexOf entryAt
     entriesAt entriesOf framesFrom headerTest blocksTest twins namesTest entryTest entriesTest verdict countsOf
     opening nthEntry nthName findEntry lookupIn lookup placed chunkPlace bytesAt orDefault createTest freshHeader
     fresh createNumber created digits decimal fields entryLine entryLines countsLine listing printed openingNumber
@@ -32,5 +33,5 @@ unfolding le leBytes same zeroIn stored ascii _⇒_ _▹_ sizeOf layoutOf partsA
     newNames newEntries inserted sorted doubled planOf clearIndex clearNames storeTexts endFrom moved moveNames
     storeName storeNames moveIndex entryBytes indexBytes storeEntries stepsOf storeList imageTest planTest appendTest
     storesFor appendAnswer appended afterRun lastStoreMade completed tableRow sheetA sheetB freshIn createdIn
-    stepCounts shown table passes
-starred = refl
+    stepCounts shown sheetOf inVersion elementOf elementIn element table versions passes
+worked = (refl, refl)

@@ -4,16 +4,17 @@ use Prim.Native.String.{String}
 use mathlib.Core.List.{List, [], _∷_, _++_}
 use mathlib.Core.Bool.{Bool, true, _&&_}
 use lib.ListN.{getD, length}
-use Rattle.gsd_format.specs.Bytes.{same, leBytes, zeros}
+use Rattle.gsd_format.specs.Bytes.{same, leBytes, zeros, stored}
 use Rattle.gsd_format.specs.Ascii.{ascii}
-use Rattle.gsd_format.specs.Header.{layoutOf}
+use Rattle.gsd_format.specs.Header.{version20, versionPlace, versionOf, layoutOf}
 use Rattle.gsd_format.specs.Names.{namesOf}
 use Rattle.gsd_format.specs.Entries.{entriesOf}
 use Rattle.gsd_format.specs.Opening.{verdict}
 use Rattle.gsd_format.specs.Lookup.{lookup, none}
+use Rattle.gsd_format.specs.Elements.{element}
 use Rattle.gsd_format.specs.Create.{createNumber, created}
 use Rattle.gsd_format.specs.Listing.{printed}
-use Rattle.gsd_format.specs.Answers.{listedNumber}
+use Rattle.gsd_format.specs.Answers.{listedNumber, elementValues}
 use Rattle.gsd_stores.specs.View.{View, viewOf, endOfUse}
 use Rattle.gsd_stores.specs.Sheet.{rowsOf}
 use Rattle.gsd_stores.specs.Plan.{Plan, planOf}
@@ -42,12 +43,20 @@ sheetA = leBytes 4 1 ++ tableRow 3 1 9 (ascii "probe") ++ ascii "probe" ++ readi
 unfoldable pub sheetB : List ℕ
 sheetB = leBytes 4 2 ++ tableRow 3 1 9 (ascii "probe") ++ tableRow 1 1 1 (ascii "heater") ++ ascii "probe" ++ readings ++ ascii "heater" ++ 80 ∷ []
 
+-- one row, "mode", of this type, N 2, M 1, its two bytes 0x4F and 0xFF
+unfoldable pub sheetOf : ℕ → List ℕ
+sheetOf kind = leBytes 4 1 ++ tableRow 2 1 kind (ascii "mode") ++ ascii "mode" ++ 0x4f ∷ 0xff ∷ []
+
 -- 2 slots, 1 segment, in a slice of so many bytes
 unfoldable pub freshIn : ℕ → List ℕ
 freshIn len = created (zeros len) [] [] 0 2 1
 
 unfoldable pub createdIn : ℕ → ℕ
 createdIn len = createNumber (zeros len) [] [] 2 1
+
+-- the image with another version in its header
+unfoldable pub inVersion : ℕ → List ℕ → List ℕ
+inVersion version img = stored img versionPlace (leBytes 4 version)
 
 -- how many stores each step takes, and all of them
 unfoldable pub stepCounts : List ℕ → List ℕ → List ℕ
@@ -65,6 +74,7 @@ shown img = verdict img ∷ frames img ∷ length (namesOf img) ∷ length (entr
 abbrev pub endIn : List ℕ → ℕ
 endIn img = endOfUse (viewOf img)
 
+-- the paper's starred table
 unfoldable pub table : List Case
 table =
     let x : List ℕ = freshIn 1024 in
@@ -107,6 +117,41 @@ table =
     ∷ record { says = "frame 0, heater, after B: 42"; got = listedNumber (lookup b 0 (ascii "heater")) ∷ []; expected = 42 ∷ [] }
     ∷ record { says = "frame 2: 40"; got = listedNumber (lookup b 2 (ascii "probe")) ∷ []; expected = 40 ∷ [] }
     ∷ record { says = "name fan: 41"; got = listedNumber (lookup b 1 (ascii "fan")) ∷ []; expected = 41 ∷ [] }
+    ∷ []
+
+-- both versions: the same request on an image of 2.1, as create makes it, and on one of 2.0
+unfoldable pub versions : List Case
+versions =
+    let new : List ℕ = freshIn 1024 in
+    let old : List ℕ = inVersion version20 new in
+    let said : List ℕ = appended new (sheetOf 11) 100 in
+    record { says = "create makes 2.1"; got = versionOf new ∷ []; expected = 0x00020001 ∷ [] }
+    ∷ record {
+      says = "no other version opens but 2.0";
+      got = verdict old ∷ verdict (inVersion 0x00020002 new) ∷ verdict (inVersion 0x00010000 new) ∷ verdict (inVersion 0x00030000 new) ∷ [];
+      expected = 0 ∷ 4 ∷ 4 ∷ 4 ∷ [];
+    }
+    ∷ record {
+      says = "a sheet with a character: taken by 2.1, 24 and no store on 2.0";
+      got = appendTest new (sheetOf 11) ∷ length (storesFor new (sheetOf 11)) ∷ appendTest old (sheetOf 11) ∷ length (storesFor old (sheetOf 11)) ∷ [];
+      expected = 0 ∷ 22 ∷ 24 ∷ 0 ∷ [];
+    }
+    ∷ record {
+      says = "types 0 and 12 are known to neither";
+      got = appendTest new (sheetOf 0) ∷ appendTest old (sheetOf 0) ∷ appendTest new (sheetOf 12) ∷ appendTest old (sheetOf 12) ∷ [];
+      expected = 24 ∷ 24 ∷ 24 ∷ 24 ∷ [];
+    }
+    ∷ record {
+      says = "0xFF as a character is 255, unsigned, and the version stays";
+      got = elementValues (element said 0 (ascii "mode") 1) ++ versionOf said ∷ shown said;
+      expected = 1 ∷ 255 ∷ 0x00020001 ∷ 0 ∷ 1 ∷ 1 ∷ 1 ∷ [];
+    }
+    ∷ record { says = "a character in an image of 2.0: 13"; got = verdict (inVersion version20 said) ∷ []; expected = 13 ∷ [] }
+    ∷ record {
+      says = "sheets A and B on 2.0: the same stores, and the version stays";
+      got = appended (appended old sheetA 23) sheetB 43;
+      expected = inVersion version20 (appended (appended new sheetA 23) sheetB 43);
+    }
     ∷ []
 
 unfoldable pub passes : List Case → Bool

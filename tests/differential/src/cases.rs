@@ -4,10 +4,65 @@
 //! implementation and the archive to the paper itself, not only to each other.
 
 use crate::ask::Ask;
-use crate::images::{blank, get64, put32, put64, put_names, put_slots, sheet, Row, Slot};
+use crate::images::{self, get64, put32, put64, put_names, put_slots, sheet, version, Row, Slot};
+use crate::images::{V2_0, V2_1, VERSIONS};
 use crate::library::{Create, Library};
+use std::ops::Deref;
 
-pub type Case = (&'static str, fn(&dyn Library));
+/// A library, and the version of the images that it is asked about.
+pub struct Versioned<'l> {
+    library: &'l dyn Library,
+    version: u32,
+}
+
+impl<'l> Deref for Versioned<'l> {
+    type Target = dyn Library + 'l;
+
+    fn deref(&self) -> &Self::Target {
+        self.library
+    }
+}
+
+impl Versioned<'_> {
+    fn of_version(&self, mut image: Vec<u8>) -> Vec<u8> {
+        put32(&mut image, 44, self.version);
+        image
+    }
+
+    /// As create makes it, but for the version.
+    fn fresh(&self, length: usize, slots: u64, segments: u64) -> Result<Vec<u8>, u64> {
+        self.library.fresh(length, slots, segments).map(|image| self.of_version(image))
+    }
+
+    fn blank(&self, length: usize, index: u64, slots: u64, names: u64, segments: u64) -> Vec<u8> {
+        self.of_version(images::blank(length, index, slots, names, segments))
+    }
+}
+
+type Case = (&'static str, fn(&Versioned));
+
+/// Given 2.0, then 2.1.
+type Between = (&'static str, fn(&Versioned, &Versioned));
+
+type Test = Box<dyn Fn(&dyn Library)>;
+
+/// All cases: those that hold for both versions once for each, then those between the two.
+pub fn all() -> Vec<(String, Test)> {
+    let mut all: Vec<(String, Test)> = Vec::new();
+    for &(name, case) in CASES {
+        for (version, title) in VERSIONS.into_iter().zip(["2.0", "2.1"]) {
+            let test = move |library: &dyn Library| case(&Versioned { library, version });
+            all.push((format!("{name} ({title})"), Box::new(test)));
+        }
+    }
+    for &(name, case) in BETWEEN {
+        let test = move |library: &dyn Library| {
+            case(&Versioned { library, version: V2_0 }, &Versioned { library, version: V2_1 })
+        };
+        all.push((name.into(), Box::new(test)));
+    }
+    all
+}
 
 /// All stores.
 const ALL: u64 = u64::MAX;
@@ -23,8 +78,8 @@ pub fn sheet_b() -> Vec<u8> {
 }
 
 /// The fresh image of the worked cases: 2 slots at 256, 1 segment at 320, 384 bytes used.
-fn fresh(library: &dyn Library) -> Vec<u8> {
-    library.fresh(1024, 2, 1).unwrap()
+fn fresh(l: &Versioned) -> Vec<u8> {
+    l.fresh(1024, 2, 1).unwrap()
 }
 
 /// A row with no data.
@@ -33,29 +88,30 @@ fn nothing(name: &[u8]) -> Vec<u8> {
 }
 
 /// 2 slots at 256 and 1 segment at 320 that lists `names`.
-fn listing(length: usize, names: &[&[u8]]) -> Vec<u8> {
-    let mut image = blank(length, 256, 2, 320, 1);
+fn listing(l: &Versioned, length: usize, names: &[&[u8]]) -> Vec<u8> {
+    let mut image = l.blank(length, 256, 2, 320, 1);
     put_names(&mut image, 320, names.iter().copied());
     image
 }
 
 /// 2 slots at 256 with these entries, name "a" in 1 segment at 320.
-fn entries(length: usize, slots: &[Slot]) -> Vec<u8> {
-    let mut image = listing(length, &[b"a"]);
+fn entries(l: &Versioned, length: usize, slots: &[Slot]) -> Vec<u8> {
+    let mut image = listing(l, length, &[b"a"]);
     put_slots(&mut image, 256, slots);
     image
 }
 
 /// `count` different names of seven bytes and their zero, behind 2 slots.
-fn many_names(count: usize) -> Vec<u8> {
+fn many_names(l: &Versioned, count: usize) -> Vec<u8> {
     let segments = (8 * count).div_ceil(64) + 1;
-    let mut image = blank(320 + 64 * segments, 256, 2, 320, segments as u64);
+    let mut image = l.blank(320 + 64 * segments, 256, 2, 320, segments as u64);
     let names: Vec<_> = (0..count).map(|n| format!("n{n:06}").into_bytes()).collect();
     put_names(&mut image, 320, names.iter().map(Vec::as_slice));
     image
 }
 
-pub const CASES: &[Case] = &[
+/// The same in both versions.
+const CASES: &[Case] = &[
     ("worked: fresh image", |l| {
         let image = fresh(l);
         assert_eq!(l.counts(&image), Ok([0, 0, 0]));
@@ -115,8 +171,8 @@ pub const CASES: &[Case] = &[
         assert_eq!(l.nth_element(&image, 0, b"probe", 3), Err(43));
     }),
     ("worked: 1,024 names", |l| {
-        assert_eq!(l.counts(&many_names(1024)), Ok([0, 1024, 0]));
-        assert_eq!(l.counts(&many_names(1025)), Err(10));
+        assert_eq!(l.counts(&many_names(l, 1024)), Ok([0, 1024, 0]));
+        assert_eq!(l.counts(&many_names(l, 1025)), Err(10));
     }),
     ("worked: 64 rows", |l| {
         let rows: Vec<_> = (0..65).map(|n| Row::bytes(&[b'a', n + 1], &[n])).collect();
@@ -127,7 +183,7 @@ pub const CASES: &[Case] = &[
         assert_eq!(l.after(&image, &sheet(&rows), ALL), (image, Err(22)));
     }),
     ("worked: location -1", |l| {
-        assert_eq!(l.counts(&entries(512, &[Slot::bytes(0, 0, u64::MAX, 0)])), Err(12));
+        assert_eq!(l.counts(&entries(l, 512, &[Slot::bytes(0, 0, u64::MAX, 0)])), Err(12));
     }),
     ("numbers 1 to 5", |l| {
         assert_eq!(l.counts(&[]), Err(1));
@@ -140,7 +196,7 @@ pub const CASES: &[Case] = &[
         for at in 0..8 {
             assert_eq!(changed(at, 0), Err(3));
         }
-        assert_eq!(changed(44, 1), Err(4));
+        assert_eq!(changed(44, 2), Err(4));
         assert_eq!(changed(46, 1), Err(4));
         for text in [48, 112] {
             let mut image = fresh(l);
@@ -154,7 +210,7 @@ pub const CASES: &[Case] = &[
     }),
     ("numbers 6 to 8", |l| {
         let verdict = |index, slots, names, segments| {
-            l.counts(&blank(512, index, slots, names, segments)).err().unwrap_or(0)
+            l.counts(&l.blank(512, index, slots, names, segments)).err().unwrap_or(0)
         };
         assert_eq!(verdict(255, 1, 320, 1), 6);
         assert_eq!(verdict(481, 1, 256, 1), 6);
@@ -170,21 +226,21 @@ pub const CASES: &[Case] = &[
         assert_eq!(verdict(257, 1, 289, 1), 0);
     }),
     ("numbers 9 and 11", |l| {
-        let mut image = listing(512, &[b"ab", b"cd"]);
+        let mut image = listing(l, 512, &[b"ab", b"cd"]);
         assert_eq!(l.counts(&image), Ok([0, 2, 0]));
-        assert_eq!(l.counts(&listing(512, &[b"ab", b"cd", b"ab"])), Err(11));
-        assert!(l.counts(&listing(512, &[b"ab", b"abc", b"b"])).is_ok());
+        assert_eq!(l.counts(&listing(l, 512, &[b"ab", b"cd", b"ab"])), Err(11));
+        assert!(l.counts(&listing(l, 512, &[b"ab", b"abc", b"b"])).is_ok());
         image[326..384].fill(b'x');
         assert_eq!(l.counts(&image), Err(9));
         image[383] = 0;
         assert_eq!(l.counts(&image), Ok([0, 3, 0]));
     }),
     ("numbers 12 to 17", |l| {
-        let verdict = |slots: &[Slot]| l.counts(&entries(512, slots)).err().unwrap_or(0);
+        let verdict = |slots: &[Slot]| l.counts(&entries(l, 512, slots)).err().unwrap_or(0);
         let good = Slot::bytes(0, 0, 384, 4);
         assert_eq!(verdict(&[good]), 0);
         assert_eq!(verdict(&[Slot { location: 255, ..good }]), 12);
-        assert_eq!(verdict(&[Slot { kind: 11, ..good }]), 13);
+        assert_eq!(verdict(&[Slot { kind: 12, ..good }]), 13);
         assert_eq!(verdict(&[Slot { id: 1, ..good }]), 14);
         assert_eq!(verdict(&[Slot { frame: 1, ..good }]), 15);
         assert_eq!(verdict(&[good, good]), 15);
@@ -197,7 +253,7 @@ pub const CASES: &[Case] = &[
         assert_eq!(verdict(&[Slot { location: 383, ..good }]), 17);
         assert_eq!(verdict(&[Slot { flags: 255, ..good }]), 0);
         // Ids fall from a frame to the next, and rise within one.
-        let mut image = listing(512, &[b"a", b"b"]);
+        let mut image = listing(l, 512, &[b"a", b"b"]);
         put_slots(&mut image, 256, &[Slot { id: 1, ..good }, Slot { frame: 1, ..good }]);
         assert_eq!(l.counts(&image), Ok([2, 2, 2]));
         put_slots(&mut image, 256, &[Slot { id: 1, ..good }, good]);
@@ -225,7 +281,7 @@ pub const CASES: &[Case] = &[
         assert_eq!(number(&good[..4]), 23);
         assert_eq!(number(&good[..35]), 23);
         assert_eq!(number(&good[..36]), 25);
-        assert_eq!(changed(16, 11), 24);
+        assert_eq!(changed(16, 12), 24);
         assert_eq!(changed(17, 0), 24);
         assert_eq!(changed(18, 1), 24);
         assert_eq!(changed(35, 1), 24);
@@ -236,7 +292,7 @@ pub const CASES: &[Case] = &[
         assert_eq!(number(&good), 0);
     }),
     ("number 28", |l| {
-        let mut image = many_names(1023);
+        let mut image = many_names(l, 1023);
         image.resize(image.len() + 65_536, 0);
         let two = sheet(&[Row::bytes(b"one", b""), Row::bytes(b"two", b"")]);
         assert_eq!(l.after(&image, &two, ALL).1, Err(28));
@@ -283,7 +339,7 @@ pub const CASES: &[Case] = &[
         assert_eq!(second(10), [4, 0xFFFE_FDFC_FBFA_F9F8]);
     }),
     ("9, 10 and 11 are tests of the whole list", |l| {
-        let mut image = many_names(1025);
+        let mut image = many_names(l, 1025);
         let end = 320 + 8 * 1025;
         image[end..].fill(b'x');
         assert_eq!(l.counts(&image), Err(9));
@@ -295,28 +351,28 @@ pub const CASES: &[Case] = &[
     }),
     ("empty blocks and chunks have a place but no byte", |l| {
         for (place, number) in [(0, 1), (255, 1), (256, 0), (290, 0), (512, 0), (513, 1)] {
-            let index = l.counts(&blank(512, place, 0, 256, 1)).err().unwrap_or(0);
+            let index = l.counts(&l.blank(512, place, 0, 256, 1)).err().unwrap_or(0);
             assert_eq!(index, 6 * number, "index at {place}");
-            let names = l.counts(&blank(512, 256, 2, place, 0)).err().unwrap_or(0);
+            let names = l.counts(&l.blank(512, 256, 2, place, 0)).err().unwrap_or(0);
             assert_eq!(names, 7 * number, "names at {place}");
         }
         for (location, number) in [(255, 12), (256, 0), (300, 0), (330, 0), (512, 0), (513, 16)] {
-            let image = entries(512, &[Slot::bytes(0, 0, location, 0)]);
+            let image = entries(l, 512, &[Slot::bytes(0, 0, location, 0)]);
             assert_eq!(l.counts(&image).err().unwrap_or(0), number, "chunk at {location}");
         }
     }),
     ("the end of use counts empty things", |l| {
-        let image = entries(500, &[Slot::bytes(0, 0, 500, 0)]);
+        let image = entries(l, 500, &[Slot::bytes(0, 0, 500, 0)]);
         assert_eq!(l.after(&image, &nothing(b"a"), ALL), (image.clone(), Err(29)));
-        let longer = entries(504, &[Slot::bytes(0, 0, 500, 0)]);
+        let longer = entries(l, 504, &[Slot::bytes(0, 0, 500, 0)]);
         let (after, stores) = l.after(&longer, &nothing(b"a"), ALL);
         assert!(stores.is_ok());
         assert_eq!(l.find(&after, 1, b"a").map(|e| e[2]), Ok(504));
-        let image = blank(512, 512, 0, 256, 1);
+        let image = l.blank(512, 512, 0, 256, 1);
         assert_eq!(l.after(&image, &nothing(b"a"), ALL).1, Err(29));
     }),
     ("29 compares the padded position", |l| {
-        let image = entries(385, &[Slot::bytes(0, 0, 384, 1)]);
+        let image = entries(l, 385, &[Slot::bytes(0, 0, 384, 1)]);
         assert_eq!(l.after(&image, &nothing(b"a"), ALL).1, Err(29));
         for length in 384..400 {
             assert_eq!(l.after(&fresh(l)[..length], &sheet_a(), ALL).1, Err(29));
@@ -326,7 +382,7 @@ pub const CASES: &[Case] = &[
     ("names fit with no spare zero behind them", |l| {
         let stores = |listed: usize, name: &[u8]| {
             let name_before = vec![b'x'; listed - 1];
-            let image = listing(1024, &[&name_before]);
+            let image = listing(l, 1024, &[&name_before]);
             let (after, stores) = l.after(&image, &nothing(name), ALL);
             (stores.unwrap()[1], get64(&after, 24), get64(&after, 32))
         };
@@ -338,7 +394,7 @@ pub const CASES: &[Case] = &[
     }),
     ("0 slots and 0 segments become 2", |l| {
         let row = sheet(&[Row::bytes(b"a", b"1")]);
-        let image = blank(456, 256, 0, 256, 0);
+        let image = l.blank(456, 256, 0, 256, 0);
         let (after, stores) = l.after(&image, &row, ALL);
         assert_eq!(stores, Ok([34, 34]));
         let header = [8, 16, 24, 32].map(|at| get64(&after, at));
@@ -368,12 +424,12 @@ pub const CASES: &[Case] = &[
         assert!(after[333..384].iter().all(|&byte| byte == 0));
     }),
     ("name bytes before the list's end are kept", |l| {
-        let mut image = listing(512, &[b"probe"]);
+        let mut image = listing(l, 512, &[b"probe"]);
         image[327..384].fill(0xFF);
         let (stopped, _) = l.after(&image, &nothing(b"probe"), 8 + 1);
         assert_eq!(&stopped[320..330], b"probe\0\0\0\xFF\xFF");
         // A list that ends on a word's border leaves its last word alone.
-        let mut image = listing(512, &[b"sevenab"]);
+        let mut image = listing(l, 512, &[b"sevenab"]);
         image[329..384].fill(0xFF);
         let (stopped, stores) = l.after(&image, &nothing(b"sevenab"), 8 + 1);
         assert_eq!(stores, Ok([9, 8 + 7 + 4]));
@@ -385,7 +441,7 @@ pub const CASES: &[Case] = &[
         assert_eq!(l.after(&image, &rows, ALL).1, Ok([26, 26]));
         assert_eq!(&l.after(&image, &rows, 17).0[320..328], b"ab\0\0\0\0\0\0");
         assert_eq!(&l.after(&image, &rows, 18).0[320..328], b"ab\0cd\0\0\0");
-        let image = listing(512, &[b"abcd"]);
+        let image = listing(l, 512, &[b"abcd"]);
         let (first, _) = l.after(&image, &nothing(b"position"), 17);
         assert_eq!(&first[320..336], b"abcd\0\0\0\0ition\0\0\0");
         assert_eq!(l.counts(&first), Ok([0, 1, 0]));
@@ -467,7 +523,7 @@ pub const CASES: &[Case] = &[
     }),
     ("21 also for empty blocks", |l| {
         let number = |index, slots, names, segments| {
-            let image = blank(1024, index, slots, names, segments);
+            let image = l.blank(1024, index, slots, names, segments);
             l.after(&image, &nothing(b"a"), ALL).1.err().unwrap_or(0)
         };
         assert_eq!(number(257, 0, 320, 1), 21);
@@ -476,21 +532,21 @@ pub const CASES: &[Case] = &[
         assert_eq!(number(256, 1, 324, 1), 21);
         assert_eq!(number(264, 1, 328, 1), 0);
         // It goes before the sheet's numbers.
-        assert_eq!(l.after(&blank(1024, 260, 1, 320, 1), b"", 0).1, Err(21));
+        assert_eq!(l.after(&l.blank(1024, 260, 1, 320, 1), b"", 0).1, Err(21));
     }),
     ("block sizes do not wrap", |l| {
         for slots in [1 << 59, 3 << 59, 1 << 63, ALL] {
-            assert_eq!(l.counts(&blank(512, 256, slots, 320, 1)), Err(6));
-            assert_eq!(l.counts(&blank(512, 256, 2, 320, slots)), Err(7));
+            assert_eq!(l.counts(&l.blank(512, 256, slots, 320, 1)), Err(6));
+            assert_eq!(l.counts(&l.blank(512, 256, 2, 320, slots)), Err(7));
         }
-        assert_eq!(l.counts(&blank(512, 256, 2, 320, 1 << 58)), Err(7));
-        assert_eq!(l.counts(&blank(512, ALL - 31, 1, 320, 1)), Err(6));
-        assert_eq!(l.counts(&blank(512, 256, 2, ALL - 63, 1)), Err(7));
-        assert_eq!(l.counts(&blank(512, ALL, 0, 320, 1)), Err(6));
+        assert_eq!(l.counts(&l.blank(512, 256, 2, 320, 1 << 58)), Err(7));
+        assert_eq!(l.counts(&l.blank(512, ALL - 31, 1, 320, 1)), Err(6));
+        assert_eq!(l.counts(&l.blank(512, 256, 2, ALL - 63, 1)), Err(7));
+        assert_eq!(l.counts(&l.blank(512, ALL, 0, 320, 1)), Err(6));
     }),
     ("chunk sizes do not wrap", |l| {
         let chunk = |n, m, kind| Slot { frame: 0, n, location: 384, m, id: 0, kind, flags: 0 };
-        let verdict = |slot| l.counts(&entries(512, &[slot])).err().unwrap_or(0);
+        let verdict = |slot| l.counts(&entries(l, 512, &[slot])).err().unwrap_or(0);
         assert_eq!(verdict(chunk(1 << 62, 4, 1)), 16);
         assert_eq!(verdict(chunk(1 << 61, 1, 10)), 16);
         assert_eq!(verdict(chunk(1 << 32, u32::MAX, 4)), 16);
@@ -498,7 +554,7 @@ pub const CASES: &[Case] = &[
         assert_eq!(verdict(chunk(ALL - 383, 1, 1)), 16);
         assert_eq!(verdict(chunk(ALL, 0, 10)), 0);
         assert_eq!(verdict(chunk(0, u32::MAX, 10)), 0);
-        let image = entries(512, &[chunk(ALL, 0, 10)]);
+        let image = entries(l, 512, &[chunk(ALL, 0, 10)]);
         assert_eq!(l.nth_element(&image, 0, b"a", 0), Err(43));
         assert_eq!(l.bytes(&image, 0, b"a"), Ok(&b""[..]));
         let sheet = sheet(&[Row::new(b"a", 1, 1 << 62, 4, b"")]);
@@ -506,7 +562,7 @@ pub const CASES: &[Case] = &[
     }),
     ("locations are signed for 12 and do not wrap", |l| {
         let verdict = |location, n| {
-            l.counts(&entries(512, &[Slot::bytes(0, 0, location, n)])).err().unwrap_or(0)
+            l.counts(&entries(l, 512, &[Slot::bytes(0, 0, location, n)])).err().unwrap_or(0)
         };
         assert_eq!(verdict(1 << 63, 1), 12);
         assert_eq!(verdict((1 << 63) - 1, 1), 16);
@@ -515,7 +571,7 @@ pub const CASES: &[Case] = &[
         assert_eq!(verdict(1, 0), 12);
     }),
     ("the list ends at location 0 before any test", |l| {
-        let mut image = blank(1024, 256, 3, 352, 1);
+        let mut image = l.blank(1024, 256, 3, 352, 1);
         put_names(&mut image, 352, [&b"a"[..]]);
         let end = Slot { frame: 99, n: 1, location: 0, m: 1, id: 65535, kind: 99, flags: 1 };
         put_slots(&mut image, 256, &[end, Slot::bytes(0, 0, 500, 4), Slot::bytes(1, 0, 500, 4)]);
@@ -526,7 +582,7 @@ pub const CASES: &[Case] = &[
         assert!(after[288..352].iter().all(|&byte| byte == 0));
     }),
     ("the first bad entry decides, in it the lowest number", |l| {
-        let verdict = |slots: &[Slot]| l.counts(&entries(512, slots)).err().unwrap_or(0);
+        let verdict = |slots: &[Slot]| l.counts(&entries(l, 512, slots)).err().unwrap_or(0);
         let far = Slot::bytes(0, 0, 511, 9);
         assert_eq!(verdict(&[far, Slot::bytes(0, 0, 1, 1)]), 16);
         let all = Slot { frame: 3, n: 9, location: 2, m: 1, id: 9, kind: 0, flags: 0 };
@@ -536,16 +592,19 @@ pub const CASES: &[Case] = &[
         assert_eq!(verdict(&[Slot { location: 511, kind: 1, id: 0, ..all }]), 15);
         assert_eq!(verdict(&[Slot { location: 300, n: 500, ..far }]), 16);
     }),
-    ("type 0 is unknown", |l| {
-        let zero = Slot { kind: 0, ..Slot::bytes(0, 0, 384, 1) };
-        assert_eq!(l.counts(&entries(512, &[zero])), Err(13));
-        assert_eq!(l.after(&fresh(l), &sheet(&[Row::new(b"a", 0, 0, 0, b"")]), ALL).1, Err(24));
+    ("types 0 and from 12 on are unknown", |l| {
+        for kind in [0].into_iter().chain(12..=255) {
+            let slot = Slot { kind, ..Slot::bytes(0, 0, 384, 1) };
+            assert_eq!(l.counts(&entries(l, 512, &[slot])), Err(13), "type {kind}");
+            let row = Row::new(b"a", kind, 0, 0, b"");
+            assert_eq!(l.after(&fresh(l), &sheet(&[row]), ALL).1, Err(24), "type {kind}");
+        }
     }),
     ("each of 22 to 27 is tested over all rows", |l| {
         let number = |sheet: &[u8]| l.after(&fresh(l), sheet, ALL).1.err().unwrap_or(0);
         assert_eq!(number(&[65, 0, 0, 0]), 22);
         let long = Row::new(b"a", 1, 9, 1, b"");
-        assert_eq!(number(&sheet(&[long.clone(), Row::new(b"b", 11, 0, 1, b"")])), 24);
+        assert_eq!(number(&sheet(&[long.clone(), Row::new(b"b", 12, 0, 1, b"")])), 24);
         assert_eq!(number(&sheet(&[Row::bytes(b"\0", b""), long])), 25);
         let twice = Row::bytes(b"a", b"");
         assert_eq!(number(&sheet(&[twice.clone(), twice, Row::bytes(b"b\0", b"")])), 26);
@@ -577,7 +636,7 @@ pub const CASES: &[Case] = &[
         let (after, stores) = l.after(&stopped, &sheet_a(), ALL);
         assert_eq!(stores, Ok([22, 22]));
         assert_eq!(l.listing(&after), "frames 1 names 1 entries 1\n0 0 9 3 1 384\n");
-        let mut image = many_names(1023);
+        let mut image = many_names(l, 1023);
         image.resize(image.len() + 65_536, 0);
         let whole = l.after(&image, &nothing(b"one"), 0).1.unwrap()[1];
         let (stopped, _) = l.after(&image, &nothing(b"one"), whole - 1);
@@ -594,7 +653,7 @@ pub const CASES: &[Case] = &[
     }),
     ("chunks lie anywhere, blocks in either order", |l| {
         // Names at 300, index at 401: chunks before, between and behind, sharing bytes.
-        let mut image = blank(600, 401, 4, 300, 1);
+        let mut image = l.blank(600, 401, 4, 300, 1);
         put_names(&mut image, 300, [&b"a"[..]]);
         let slots = [(257, 43), (364, 37), (365, 1), (529, 71)]
             .iter()
@@ -624,7 +683,7 @@ pub const CASES: &[Case] = &[
             segments: 1,
         };
         assert_eq!(l.create(&mut image, request), 0);
-        let mut expected = blank(384, 256, 2, 320, 1);
+        let mut expected = images::blank(384, 256, 2, 320, 1);
         put32(&mut expected, 40, 0x0001_0002);
         expected[48..57].copy_from_slice(b"regulator");
         expected[112..117].copy_from_slice(b"night");
@@ -653,7 +712,7 @@ pub const CASES: &[Case] = &[
         assert_eq!(stopped, image);
     }),
     ("names have any length", |l| {
-        let mut image = blank(8192, 256, 2, 320, 20);
+        let mut image = l.blank(8192, 256, 2, 320, 20);
         let (long, longer) = ([b'x'; 64], [b'y'; 1000]);
         put_names(&mut image, 320, [&long[..], &longer, b"\xC3\xA4"]);
         put_slots(&mut image, 256, &[Slot::bytes(0, 1, 1700, 4)]);
@@ -662,5 +721,133 @@ pub const CASES: &[Case] = &[
         assert_eq!(l.bytes(&image, 0, &longer), Ok(&[0; 4][..]));
         let (after, _) = l.after(&image, &nothing(&[b'z'; 255]), ALL);
         assert_eq!(l.nth_name(&after, 3), Ok(&[b'z'; 255][..]));
+    }),
+];
+
+/// Three characters under the name "text", 27 bytes.
+fn text() -> Row {
+    Row::new(b"text", 11, 3, 1, b"abc")
+}
+
+/// Where the versions differ, and that nothing else does.
+const BETWEEN: &[Between] = &[
+    ("worked: the same but for the version", |old, new| {
+        let mut images = [fresh(old), fresh(new)];
+        for (sheet, whole) in [(sheet_a(), 23), (sheet_b(), 43)] {
+            for limit in 0..=whole + 1 {
+                let (a, stores) = old.after(&images[0], &sheet, limit);
+                let (mut b, same) = new.after(&images[1], &sheet, limit);
+                assert_eq!([stores, same], [Ok([limit.min(whole), whole]); 2]);
+                assert_eq!([version(&a), version(&b)], VERSIONS);
+                assert_eq!(old.listing(&a), new.listing(&b));
+                b[44] = 0;
+                assert_eq!(a, b);
+            }
+            images = [old.after(&images[0], &sheet, ALL).0, new.after(&images[1], &sheet, ALL).0];
+        }
+    }),
+    ("versions 2.0 and 2.1 open, and no other", |old, new| {
+        assert_eq!(old.counts(&fresh(old)), Ok([0, 0, 0]));
+        assert_eq!(new.counts(&fresh(new)), Ok([0, 0, 0]));
+        let near = [0x0002_0002, 0x0001_0000, 0x0001_0001, 0x0003_0000, 0x0002_0101, 0x0102_0001];
+        for other in near.into_iter().chain([0, 1, 0x8002_0001, 0x0100_0200, u32::MAX]) {
+            let mut image = fresh(new);
+            put32(&mut image, 44, other);
+            assert_eq!(new.counts(&image), Err(4), "{other:#x}");
+            assert_eq!(new.after(&image, b"", ALL), (image.clone(), Err(4)));
+            // After 3, before 5.
+            image[48..176].fill(b'x');
+            assert_eq!(new.counts(&image), Err(4));
+            image[0] = 0;
+            assert_eq!(new.counts(&image), Err(3));
+        }
+    }),
+    ("a character is known in 2.1 only", |old, new| {
+        let text = Slot { kind: 11, ..Slot::bytes(0, 0, 384, 4) };
+        let image = entries(old, 512, &[text]);
+        assert_eq!(old.counts(&image), Err(13));
+        assert_eq!(old.find(&image, 0, b"a"), Err(13));
+        let image = entries(new, 512, &[text]);
+        assert_eq!(new.find(&image, 0, b"a"), Ok([0, 4, 384, 1, 0, 11, 0]));
+        assert_eq!(new.bytes(&image, 0, b"a"), Ok(&[0; 4][..]));
+        assert_eq!(new.listing(&image), "frames 1 names 1 entries 1\n0 0 11 4 1 384\n");
+
+        let both = |slots: &[Slot]| {
+            [old, new].map(|l| l.counts(&entries(l, 512, slots)).err().unwrap_or(0))
+        };
+        assert_eq!(both(&[Slot { location: 255, ..text }]), [12, 12]);
+        assert_eq!(both(&[Slot { id: 1, ..text }]), [13, 14]);
+        assert_eq!(both(&[Slot { frame: 1, ..text }]), [13, 15]);
+        assert_eq!(both(&[Slot { n: 129, ..text }]), [13, 16]);
+        assert_eq!(both(&[Slot { n: 128, ..text }]), [13, 0]);
+        assert_eq!(both(&[Slot { n: 1 << 62, m: 4, ..text }]), [13, 16]);
+        assert_eq!(both(&[Slot { location: 383, ..text }]), [13, 17]);
+        let good = Slot::bytes(0, 0, 384, 4);
+        assert_eq!(both(&[good, Slot { frame: 1, ..text }]), [13, 0]);
+        assert_eq!(both(&[Slot { n: 129, ..good }, Slot { frame: 1, ..text }]), [16, 16]);
+        // The list ends before its type is looked at.
+        assert_eq!(both(&[Slot { location: 0, ..text }]), [0, 0]);
+    }),
+    ("a sheet has the types of its image's version", |old, new| {
+        let image = fresh(old);
+        for limit in [0, 1, ALL] {
+            assert_eq!(old.after(&image, &sheet(&[text()]), limit), (image.clone(), Err(24)));
+        }
+        assert_eq!(sheet(&[text()]).len(), 27);
+        let (after, stores) = new.after(&fresh(new), &sheet(&[text()]), ALL);
+        assert_eq!(stores, Ok([8 + 8 + 1 + 1 + 4; 2]));
+        assert_eq!(new.listing(&after), "frames 1 names 1 entries 1\n0 0 11 3 1 384\n");
+        assert_eq!(new.bytes(&after, 0, b"text"), Ok(&b"abc"[..]));
+        assert_eq!(after[44..48], [1, 0, 2, 0]);
+
+        let both = |rows: &[Row]| {
+            [old, new].map(|l| l.after(&fresh(l), &sheet(rows), ALL).1.err().unwrap_or(0))
+        };
+        assert_eq!(both(&[Row::bytes(b"a", b"1"), text()]), [24, 0]);
+        assert_eq!(both(&[Row::new(b"a", 1, 9, 1, b""), text()]), [24, 25]);
+        assert_eq!(both(&[Row { n: 4, ..text() }]), [24, 25]);
+        assert_eq!(both(&[Row { n: 1 << 62, m: 4, ..Row::new(b"a", 11, 0, 0, b"") }]), [24, 25]);
+        assert_eq!(both(&[Row { name: b"a\0".to_vec(), ..text() }]), [24, 26]);
+        assert_eq!(both(&[text(), text()]), [24, 27]);
+        // The image's own numbers go first.
+        let odd = old.blank(1024, 260, 1, 320, 1);
+        assert_eq!(old.after(&odd, &sheet(&[text()]), ALL).1, Err(21));
+    }),
+    ("a character is an unsigned number", |old, new| {
+        let bytes = [0xFF, 0x80, 0x7F, 0, 1, 2];
+        let row = Row::new(b"a", 11, 3, 2, &bytes);
+        let (image, _) = new.after(&fresh(new), &sheet(std::slice::from_ref(&row)), ALL);
+        for (k, number) in [255, 128, 127, 0, 1, 2].into_iter().enumerate() {
+            assert_eq!(new.nth_element(&image, 0, b"a", k as u64), Ok([1, number]));
+        }
+        assert_eq!(new.nth_element(&image, 0, b"a", 6), Err(43));
+        // As u8 the same, in 2.0 too.
+        let (image, _) = old.after(&fresh(old), &sheet(&[Row { kind: 1, ..row }]), ALL);
+        assert_eq!(old.nth_element(&image, 0, b"a", 0), Ok([1, 255]));
+    }),
+    ("a chunk of no character", |old, new| {
+        for (n, m) in [(0, 1), (0, 0), (ALL, 0), (0, u32::MAX)] {
+            let empty = sheet(&[Row::new(b"a", 11, n, m, b"")]);
+            assert_eq!(old.after(&fresh(old), &empty, ALL), (fresh(old), Err(24)));
+            let (image, stores) = new.after(&fresh(new), &empty, ALL);
+            assert_eq!(stores, Ok([8 + 8 + 1 + 4; 2]));
+            assert_eq!(new.find(&image, 0, b"a"), Ok([0, n, 384, m.into(), 0, 11, 0]));
+            assert_eq!(new.bytes(&image, 0, b"a"), Ok(&b""[..]));
+            assert_eq!(new.nth_element(&image, 0, b"a", 0), Err(43));
+            let slot = Slot { n, m, kind: 11, ..Slot::bytes(0, 0, 384, 0) };
+            assert_eq!(old.counts(&entries(old, 512, &[slot])), Err(13));
+            assert_eq!(new.counts(&entries(new, 512, &[slot])), Ok([1, 1, 1]));
+        }
+    }),
+    ("create makes 2.1, whatever was there", |old, new| {
+        for before in [vec![0; 512], vec![0xFF; 512], old.blank(512, 256, 2, 320, 1)] {
+            let mut image = before;
+            let (application, schema) = (&b"a"[..], &b"s"[..]);
+            let request =
+                Create { application, schema, schema_version: u32::MAX, slots: 2, segments: 1 };
+            assert_eq!(new.create(&mut image, request), 0);
+            assert_eq!(image[40..48], [255, 255, 255, 255, 1, 0, 2, 0]);
+            assert!(new.after(&image, &sheet(&[text()]), ALL).1.is_ok());
+        }
     }),
 ];

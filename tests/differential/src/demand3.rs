@@ -5,7 +5,8 @@ use crate::check::hex;
 use crate::images::{lawful_rows, Row};
 use crate::library::Library;
 
-/// A call of a run: any bytes as a sheet, with the rows of a lawful one, and a limit.
+/// A call of a run: any bytes as a sheet, with the rows of one that is lawful for the run's image,
+/// and a limit.
 pub struct Call {
     sheet: Vec<u8>,
     rows: Option<Vec<Row>>,
@@ -13,8 +14,9 @@ pub struct Call {
 }
 
 impl Call {
-    pub fn new(sheet: Vec<u8>, limit: u64) -> Call {
-        Call { rows: lawful_rows(&sheet), sheet, limit }
+    /// No append changes the version, so that of the run's start is that of every call.
+    pub fn new(version: u32, sheet: Vec<u8>, limit: u64) -> Call {
+        Call { rows: lawful_rows(&sheet, version), sheet, limit }
     }
 }
 
@@ -163,13 +165,14 @@ impl<'l> Run<'l> {
     }
 }
 
-/// A store changes nothing but one word on a multiple of 8.
+/// A store changes nothing but one word on a multiple of 8, and of the header one of those that say
+/// where the blocks are.
 fn one_word(before: &[u8], after: &[u8]) -> Result<(), String> {
     let words = before.chunks(8).zip(after.chunks(8)).enumerate();
     let changed: Vec<_> = words.filter(|(_, (a, b))| a != b).map(|(n, _)| 8 * n).collect();
     match changed[..] {
         [] => Ok(()),
-        [at] if at + 8 <= before.len() => Ok(()),
+        [at] if at + 8 <= before.len() && (at >= 256 || (8..40).contains(&at)) => Ok(()),
         _ => Err(format!("the words at {changed:?} changed")),
     }
 }

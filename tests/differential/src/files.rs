@@ -1,7 +1,7 @@
 //! Files that the real GSD library wrote, with its own reading of them (tests/files/README.md).
 
 use crate::ask::Ask;
-use crate::images::get64;
+use crate::images::{get64, sheet, Row};
 use crate::library::Library;
 use std::path::{Path, PathBuf};
 use std::{fs, io};
@@ -30,13 +30,20 @@ impl Files {
         Files { images: folder.clone(), listings: folder.clone(), chunks: folder }
     }
 
-    /// The names of the files, without their ending.
+    /// The names of the files, without their ending; "2.1/NAME" for those in the folder `2.1`.
     pub fn names(&self) -> io::Result<Vec<String>> {
         let mut names = Vec::new();
-        for file in fs::read_dir(&self.images)? {
-            let path = file?.path();
-            if path.extension().is_some_and(|ending| ending == "gsd") {
-                names.extend(path.file_stem().and_then(|stem| stem.to_str()).map(String::from));
+        for folder in ["", "2.1/"] {
+            let path = self.images.join(folder);
+            if !folder.is_empty() && !path.is_dir() {
+                continue;
+            }
+            for file in fs::read_dir(path)? {
+                let path = file?.path();
+                if path.extension().is_some_and(|ending| ending == "gsd") {
+                    let stem = path.file_stem().and_then(|stem| stem.to_str());
+                    names.extend(stem.map(|stem| format!("{folder}{stem}")));
+                }
             }
         }
         names.sort();
@@ -78,11 +85,14 @@ fn hex(text: &str) -> Vec<u8> {
 /// Panics unless the library lists the file and reads its chunks as the real one does.
 pub fn hold(library: &dyn Library, files: &Files, name: &str) {
     let image = files.image(name);
-    assert_eq!(library.listing(&image), files.listing(name), "{name}");
+    let listing = files.listing(name);
+    assert_eq!(library.listing(&image), listing, "{name}");
+    let chunks = files.chunks(name);
+    let characters = chunks.lines().any(|line| line.split('\t').nth(2) == Some("11"));
+    other_version(library, &image, &listing, characters);
     let Ok([_, _, entries]) = library.counts(&image) else {
         return;
     };
-    let chunks = files.chunks(name);
     assert_eq!(chunks.lines().count() as u64, entries, "{name}");
     for line in chunks.lines() {
         let fields: Vec<_> = line.split('\t').collect();
@@ -94,23 +104,52 @@ pub fn hold(library: &dyn Library, files: &Files, name: &str) {
         assert_eq!(crc32(bytes), crc, "{name}: {line}");
         assert_eq!(library.nth_name(&image, id), Ok(&chunk[..]));
         // Element by element the same bytes: little-endian, sign-extended or not.
-        let size = crate::images::size(kind as u8);
-        for (k, expected) in bytes.chunks_exact(size).enumerate().take(1000) {
-            let [_, bits] = library.nth_element(&image, frame, &chunk, k as u64).unwrap();
-            assert_eq!(&bits.to_le_bytes()[..size], expected);
+        let answered = [0, 1, 1, 1, 1, 2, 2, 2, 2, 3, 4, 1][kind as usize];
+        let size = bytes.len() / (n * m).max(1) as usize;
+        for (k, expected) in bytes.chunks_exact(size.max(1)).enumerate().take(1000) {
+            let mut whole = [if answered == 2 && expected[size - 1] > 127 { 255 } else { 0 }; 8];
+            whole[..size].copy_from_slice(expected);
+            let element = library.nth_element(&image, frame, &chunk, k as u64);
+            assert_eq!(element, Ok([answered, u64::from_le_bytes(whole)]), "{name}: {line}");
         }
         assert_eq!(library.nth_element(&image, frame, &chunk, n * m), Err(43));
     }
     grow(library, &image);
 }
 
-/// The file grows as an image: each old chunk reads the same after an append, and after a stop.
+/// As a file of the other version it lists the same, but for characters, which 2.0 does not know.
+fn other_version(library: &dyn Library, file: &[u8], listing: &str, characters: bool) {
+    let mut image = file.to_vec();
+    image[44] ^= 1;
+    assert!(!characters || image[44] == 0);
+    let expected = if characters { "refused 13\n" } else { listing };
+    assert_eq!(library.listing(&image), expected);
+    if image.len() <= 65_536 {
+        image[44] = 2;
+        assert_eq!(library.listing(&image), "refused 4\n");
+    }
+}
+
+/// The file grows as an image: it stays of its version, and each old chunk reads the same after an
+/// append, and after a stop.
 fn grow(library: &dyn Library, file: &[u8]) {
     let mut image = file.to_vec();
     image.resize(file.len().next_multiple_of(8) + 65_536, 0xA5);
+    let aligned = [8, 24].iter().all(|&at| get64(&image, at).is_multiple_of(8));
+    // Characters go into images of 2.1 alone.
+    let text = sheet(&[Row::new(b"text", 11, 3, 1, b"\xC2\xB5s")]);
+    let (after, stores) = library.after(&image, &text, u64::MAX);
+    match stores {
+        Err(number) => assert_eq!(number, if aligned { 24 } else { 21 }),
+        Ok(_) => {
+            let frame = library.counts(&image).unwrap()[0];
+            assert_eq!(library.bytes(&after, frame, b"text"), Ok(&b"\xC2\xB5s"[..]));
+            assert_eq!(library.nth_element(&after, frame, b"text", 0), Ok([1, 0xC2]));
+        }
+    }
+    assert_eq!(stores.is_ok(), aligned && image[44] == 1);
     let sheet = crate::cases::sheet_b();
     let stores = library.after(&image, &sheet, 0).1;
-    let aligned = [8, 24].iter().all(|&at| get64(&image, at).is_multiple_of(8));
     let Ok([_, whole]) = stores else {
         assert!(stores == Err(21) && !aligned);
         return;
@@ -118,6 +157,7 @@ fn grow(library: &dyn Library, file: &[u8]) {
     let [frames, names, entries] = library.counts(&image).unwrap();
     for limit in [0, 1, whole / 2, whole - 1, whole] {
         let (after, _) = library.after(&image, &sheet, limit);
+        assert_eq!(after[44..48], image[44..48]);
         let [new_frames, ..] = library.counts(&after).unwrap();
         assert_eq!(new_frames, frames + u64::from(limit == whole));
         for n in 0..entries {

@@ -1,6 +1,8 @@
 //! Random images and sheets: lawful, odd and damaged.
 
-use crate::images::{blank, put32, put64, put_names, put_slots, sheet, size, Row, Slot};
+use crate::images::{
+    blank, last_type, put32, put64, put_names, put_slots, sheet, size, Row, Slot, V2_1, VERSIONS,
+};
 use crate::library::{Create, Library, Reference};
 use crate::random::Rng;
 
@@ -49,7 +51,26 @@ pub fn names(rng: &mut Rng, count: usize) -> Vec<Vec<u8>> {
     names
 }
 
-/// A fresh image of a random shape, dirty behind its blocks.
+/// A version that opens, one near it, or any.
+pub fn odd_version(rng: &mut Rng) -> u32 {
+    match rng.below(6) {
+        0 => rng.pick(&[V2_1 + 1, 0x0001_0000, 0x0003_0000, 0, u32::MAX]),
+        1 => rng.pick(&VERSIONS) ^ 1 << rng.below(32),
+        2 => rng.number() as u32,
+        _ => rng.pick(&VERSIONS),
+    }
+}
+
+/// A type that not every version knows, or none does, or any.
+fn odd_kind(rng: &mut Rng) -> u8 {
+    match rng.below(3) {
+        0 => 11,
+        1 => rng.pick(&[0, 12, 13, 255]),
+        _ => rng.below(14) as u8,
+    }
+}
+
+/// A fresh image of a random shape and of either version, dirty behind its blocks.
 pub fn fresh(rng: &mut Rng) -> Vec<u8> {
     let slots = rng.pick(&[1, 1, 2, 3, 4, 7, 16]);
     let segments = rng.pick(&[1, 1, 2, 3, 5]);
@@ -65,12 +86,13 @@ pub fn fresh(rng: &mut Rng) -> Vec<u8> {
         segments: segments as u64,
     };
     assert_eq!(Reference.create(&mut image, request), 0);
+    put32(&mut image, 44, rng.pick(&VERSIONS));
     image
 }
 
 /// N, M and type of a chunk of at most `room` bytes.
-fn shape(rng: &mut Rng, room: usize) -> (u64, u32, u8) {
-    let kind = rng.between(1, 10) as u8;
+fn shape(rng: &mut Rng, version: u32, room: usize) -> (u64, u32, u8) {
+    let kind = rng.between(1, last_type(version).into()) as u8;
     let columns = rng.pick(&[1, 1, 1, 2, 3, 4]);
     match rng.below(12) {
         // Honestly empty, however large the other number is.
@@ -81,15 +103,16 @@ fn shape(rng: &mut Rng, room: usize) -> (u64, u32, u8) {
     }
 }
 
-pub fn row(rng: &mut Rng, name: Vec<u8>) -> Row {
+pub fn row(rng: &mut Rng, version: u32, name: Vec<u8>) -> Row {
     let room = rng.pick(&[9, 17, 40, 100]);
-    let (n, m, kind) = shape(rng, room);
+    let (n, m, kind) = shape(rng, version, room);
     let data = rng.bytes((n.wrapping_mul(m.into()) as usize).wrapping_mul(size(kind)));
     Row { name, kind, n, m, data }
 }
 
-/// Rows with different names, some of them of `known`, in any order.
-pub fn rows(rng: &mut Rng, known: &[Vec<u8>]) -> Vec<Row> {
+/// Rows with different names, some of them of `known`, in any order. Their types are those of the
+/// version, but for a character now and then that it may not know.
+pub fn rows(rng: &mut Rng, version: u32, known: &[Vec<u8>]) -> Vec<Row> {
     let count = match rng.below(20) {
         0 => rng.between(5, 64),
         _ => rng.between(1, 4),
@@ -108,7 +131,13 @@ pub fn rows(rng: &mut Rng, known: &[Vec<u8>]) -> Vec<Row> {
             chosen.push(format!("other {}", chosen.len()).into_bytes());
         }
     }
-    chosen.into_iter().map(|name| row(rng, name)).collect()
+    let mut rows: Vec<_> = chosen.into_iter().map(|name| row(rng, version, name)).collect();
+    if rng.chance(4) {
+        let row = &mut rows[rng.below(count)];
+        let length = rng.below(20);
+        *row = Row { kind: 11, ..Row::bytes(&row.name, &rng.bytes(length)) };
+    }
+    rows
 }
 
 /// A limit of stores, of all kinds.
@@ -131,9 +160,9 @@ pub struct Layout {
     list_end: usize,
 }
 
-/// An image built field by field that opens, however odd: blocks in either order, at odd places,
-/// touching, empty or at the slice's end; chunks before, between and behind them, sharing bytes,
-/// empty anywhere; leftovers behind both lists.
+/// An image built field by field that opens, however odd: of either version; blocks in either order,
+/// at odd places, touching, empty or at the slice's end; chunks before, between and behind them,
+/// sharing bytes, empty anywhere; leftovers behind both lists.
 pub fn odd(rng: &mut Rng) -> Layout {
     let slots = rng.pick(&[0, 1, 1, 2, 2, 3, 4, 6]);
     let segments = rng.pick(&[0, 1, 1, 1, 2, 3]);
@@ -165,6 +194,8 @@ pub fn odd(rng: &mut Rng) -> Layout {
     image[..256].copy_from_slice(&header);
     image[176..256].copy_from_slice(&reserved);
     image[40] = rng.byte();
+    let version = rng.pick(&VERSIONS);
+    put32(&mut image, 44, version);
 
     // Names, then nothing; sometimes the last one fills the block.
     let block = name_block..name_block + sizes[1];
@@ -217,7 +248,7 @@ pub fn odd(rng: &mut Rng) -> Layout {
         let (start, end) = rng.pick(&free);
         let location = start + rng.below(end - start + 1);
         let room = rng.pick(&[end - location, (end - location).min(20)]);
-        let (n, m, kind) = shape(rng, room);
+        let (n, m, kind) = shape(rng, version, room);
         let empty = n == 0 || m == 0;
         let location = if empty { rng.between(256, image.len()) } else { location };
         let flags = if rng.chance(30) { rng.byte() } else { 0 };
@@ -255,7 +286,7 @@ impl Layout {
                     2 => put64(&mut self.image, slot + 16, near),
                     3 => self.image[slot + 24 + rng.below(4)] = rng.byte(),
                     4 => self.image[slot + 28 + rng.below(2)] = rng.pick(&[0, 1, 2, 3, 255]),
-                    5 => self.image[slot + 30] = rng.below(14) as u8,
+                    5 => self.image[slot + 30] = odd_kind(rng),
                     6 => {
                         // A product of 2^64 or little more, for some types.
                         let columns = rng.between(0, 4);
@@ -280,12 +311,13 @@ impl Layout {
                 self.bend_names(rng);
             } else {
                 let near = self.near(rng);
-                match rng.below(6) {
+                match rng.below(7) {
                     0 => put64(&mut self.image, 8, near),
                     1 => put64(&mut self.image, 16, rng.border()),
                     2 => put64(&mut self.image, 24, near),
                     3 => put64(&mut self.image, 32, rng.border()),
                     4 => put64(&mut self.image, 16, self.index.1 as u64 / 32 + 1),
+                    5 => put32(&mut self.image, 44, odd_version(rng)),
                     _ => put64(&mut self.image, 32, self.name_block.1 as u64 / 64 + 1),
                 }
             }
@@ -368,8 +400,8 @@ pub fn damaged_sheet(rng: &mut Rng, rows: &[Row]) -> Vec<u8> {
 }
 
 /// A sheet whose rows have borders for numbers, zeros in names, equal names and unknown types.
-pub fn bent_sheet(rng: &mut Rng, known: &[Vec<u8>]) -> Vec<u8> {
-    let mut rows = rows(rng, known);
+pub fn bent_sheet(rng: &mut Rng, version: u32, known: &[Vec<u8>]) -> Vec<u8> {
+    let mut rows = rows(rng, version, known);
     let count = rows.len();
     for _ in 0..rng.between(1, 2) {
         let other = rows[rng.below(count)].name.clone();
@@ -377,7 +409,7 @@ pub fn bent_sheet(rng: &mut Rng, known: &[Vec<u8>]) -> Vec<u8> {
         match rng.below(8) {
             0 => row.n = rng.border(),
             1 => row.m = rng.border() as u32,
-            2 => row.kind = rng.below(14) as u8,
+            2 => row.kind = odd_kind(rng),
             3 => row.name.clear(),
             4 if !row.name.is_empty() => {
                 let at = rng.below(row.name.len());

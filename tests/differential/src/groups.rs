@@ -3,7 +3,9 @@
 use crate::check::{names_of, Check};
 use crate::demand3::{Call, Run};
 use crate::generate::{self, Layout};
-use crate::images::{blank, put32, put64, put_names, put_slots, sheet, Row, Slot, MAGIC};
+use crate::images::{
+    blank, put32, put64, put_names, put_slots, sheet, version, Row, Slot, MAGIC, VERSIONS,
+};
 use crate::library::{Create, Library, Reference};
 use crate::random::Rng;
 
@@ -52,6 +54,7 @@ fn lengths(check: &mut Check, rng: &mut Rng) {
     let sheet = sheet(&[Row::bytes(b"a", b"1234567890")]);
     let mut whole = blank(400, 256, 0, 256, 0);
     for length in 0..=300 {
+        put32(&mut whole, 44, VERSIONS[length % 2]);
         for (index, names) in [(256, 256), (length as u64, 256), (256, length as u64)] {
             put64(&mut whole, 8, index);
             put64(&mut whole, 24, names);
@@ -112,7 +115,7 @@ fn create(check: &mut Check, rng: &mut Rng) {
         check.open();
         // What is made can be appended to, with the defaults for slots and segments too.
         if rng.chance(20) {
-            let rows = generate::rows(rng, &[]);
+            let rows = generate::rows(rng, version(check.image()), &[]);
             check.append(&sheet(&rows), generate::limit(rng));
             check.read_all(&names_of(&rows));
         }
@@ -122,7 +125,7 @@ fn create(check: &mut Check, rng: &mut Rng) {
 fn fresh(check: &mut Check, rng: &mut Rng) {
     check.load(&generate::fresh(rng));
     check.read_all(&[]);
-    let rows = generate::rows(rng, &[]);
+    let rows = generate::rows(rng, version(check.image()), &[]);
     if check.append(&sheet(&rows), u64::MAX).is_some() {
         check.read_all(&names_of(&rows));
     }
@@ -146,7 +149,7 @@ fn runs(check: &mut Check, rng: &mut Rng) {
     let (image, mut known) = start(rng);
     check.load(&image);
     for _ in 0..rng.between(2, 8) {
-        let rows = generate::rows(rng, &known);
+        let rows = generate::rows(rng, version(&image), &known);
         let limit = generate::limit(rng);
         if let Some([_, whole]) = check.append(&sheet(&rows), limit) {
             known.extend(names_of(&rows));
@@ -164,7 +167,7 @@ fn runs(check: &mut Check, rng: &mut Rng) {
 
 fn every_limit(check: &mut Check, rng: &mut Rng) {
     let (image, mut known) = start(rng);
-    let mut rows = generate::rows(rng, &known);
+    let mut rows = generate::rows(rng, version(&image), &known);
     rows.truncate(3);
     let sheet = sheet(&rows);
     known.extend(names_of(&rows));
@@ -172,7 +175,7 @@ fn every_limit(check: &mut Check, rng: &mut Rng) {
     let Some([_, whole]) = check.append(&sheet, 0) else {
         return;
     };
-    let mut next = generate::rows(rng, &known);
+    let mut next = generate::rows(rng, version(&image), &known);
     next.truncate(2);
     let next = crate::images::sheet(&next);
     for limit in 0..=whole + 1 {
@@ -190,7 +193,7 @@ fn odd(check: &mut Check, rng: &mut Rng) {
     let Layout { image, names, .. } = generate::odd(rng);
     check.load(&image);
     check.read_all(&names);
-    let rows = generate::rows(rng, &names);
+    let rows = generate::rows(rng, version(&image), &names);
     check.append(&sheet(&rows), generate::limit(rng));
     check.read_all(&names_of(&rows));
 }
@@ -200,7 +203,7 @@ fn changed(check: &mut Check, rng: &mut Rng, layout: Layout) {
     if check.open().is_some() {
         check.read_all(&layout.names);
     }
-    let mut rows = generate::rows(rng, &layout.names);
+    let mut rows = generate::rows(rng, version(&layout.image), &layout.names);
     rows.truncate(3);
     touch(check, &sheet(&rows), generate::limit(rng));
     check.open();
@@ -225,7 +228,8 @@ fn random_bytes(check: &mut Check, rng: &mut Rng) {
     let repaired = rng.below(6);
     if length >= 256 && repaired > 0 {
         image[..8].copy_from_slice(&MAGIC);
-        put32(&mut image, 44, if repaired > 1 { 0x0002_0000 } else { rng.number() as u32 });
+        let odd = generate::odd_version(rng);
+        put32(&mut image, 44, if repaired > 1 { rng.pick(&VERSIONS) } else { odd });
         if repaired > 2 {
             for (at, unit) in [(8, 32), (24, 64)] {
                 put64(&mut image, at, rng.below(length + 64) as u64);
@@ -248,16 +252,17 @@ fn random_bytes(check: &mut Check, rng: &mut Rng) {
     check.load(&image);
     check.read_all(&[b"\x01".to_vec()]);
     touch(check, &rng.bytes(length % 90), u64::MAX);
-    touch(check, &sheet(&generate::rows(rng, &[])), generate::limit(rng));
+    let rows = generate::rows(rng, version(&image), &[]);
+    touch(check, &sheet(&rows), generate::limit(rng));
 }
 
 fn sheets(check: &mut Check, rng: &mut Rng) {
     let (image, known) = start(rng);
     check.load(&image);
     for _ in 0..3 {
-        let rows = generate::rows(rng, &known);
+        let rows = generate::rows(rng, version(&image), &known);
         let sheet = match rng.below(4) {
-            0 => generate::bent_sheet(rng, &known),
+            0 => generate::bent_sheet(rng, version(&image), &known),
             1 => rng.bytes(rows.len() * 20),
             _ => generate::damaged_sheet(rng, &rows),
         };
@@ -272,6 +277,7 @@ fn many_names(check: &mut Check, rng: &mut Rng) {
     let segments = (8 * count).div_ceil(64) + rng.below(2);
     let length = 384 + 64 * segments;
     let mut image = blank(length, 256, 4, 384, segments as u64);
+    put32(&mut image, 44, rng.pick(&VERSIONS));
     let mut names: Vec<_> = (0..count).map(|n| format!("n{n:06}").into_bytes()).collect();
     if rng.chance(30) {
         let (a, b) = (rng.below(count), rng.below(count));
@@ -291,7 +297,7 @@ fn many_names(check: &mut Check, rng: &mut Rng) {
         check.name(n);
     }
     let known = if rng.chance(50) { &names[..] } else { &[] };
-    let mut rows = generate::rows(rng, known);
+    let mut rows = generate::rows(rng, version(&image), known);
     rows.truncate(8);
     if check.append(&sheet(&rows), u64::MAX).is_some() {
         for row in &rows {
@@ -310,7 +316,7 @@ fn many_rows(check: &mut Check, rng: &mut Rng) {
         let mut rows: Vec<_> = (0..count)
             .map(|n| {
                 let name = format!("{}row {n}", "x".repeat(rng.below(40))).into_bytes();
-                generate::row(rng, name)
+                generate::row(rng, version(check.image()), name)
             })
             .collect();
         for _ in 0..count {
@@ -344,7 +350,7 @@ fn night(check: &mut Check, rng: &mut Rng) {
     let known = generate::names(rng, 10);
     let mut full = 0;
     while full < 5 {
-        let rows = generate::rows(rng, &known);
+        let rows = generate::rows(rng, version(check.image()), &known);
         let limit = if rng.chance(80) { u64::MAX } else { generate::limit(rng) };
         if check.append(&sheet(&rows), limit).is_none() {
             full += 1;
@@ -363,6 +369,7 @@ fn long_index(check: &mut Check, rng: &mut Rng) {
     let slots = frames * names + rng.below(3);
     let data = 256 + 32 * slots + 128;
     let mut image = blank(data + 4096, 256, slots as u64, (data - 128) as u64, 2);
+    put32(&mut image, 44, rng.pick(&VERSIONS));
     let listed: Vec<_> = (0..names).map(|n| format!("name {n:02}").into_bytes()).collect();
     put_names(&mut image, data - 128, listed.iter().map(Vec::as_slice));
     let mut entries = Vec::with_capacity(frames * names);
@@ -456,13 +463,13 @@ fn demand3(check: &mut Check, rng: &mut Rng) {
     let (image, known) = start(rng);
     let calls: Vec<_> = (0..rng.between(1, 6))
         .map(|_| {
-            let mut rows = generate::rows(rng, &known);
+            let mut rows = generate::rows(rng, version(&image), &known);
             rows.truncate(3);
             let sheet = match rng.below(8) {
                 0 => generate::damaged_sheet(rng, &rows),
                 _ => sheet(&rows),
             };
-            Call::new(sheet, generate::limit(rng))
+            Call::new(version(&image), sheet, generate::limit(rng))
         })
         .collect();
     match Run::make(check.library(), &image, &calls) {

@@ -2,6 +2,12 @@
 
 pub const MAGIC: [u8; 8] = [0xDF, 0x65, 0xDF, 0x65, 0xDF, 0x65, 0xDF, 0x65];
 
+pub const V2_0: u32 = 0x0002_0000;
+pub const V2_1: u32 = 0x0002_0001;
+
+/// Those that open.
+pub const VERSIONS: [u32; 2] = [V2_0, V2_1];
+
 pub fn put16(bytes: &mut [u8], at: usize, number: u16) {
     bytes[at..at + 2].copy_from_slice(&number.to_le_bytes());
 }
@@ -18,7 +24,12 @@ pub fn get64(bytes: &[u8], at: usize) -> u64 {
     u64::from_le_bytes(bytes[at..at + 8].try_into().unwrap())
 }
 
-/// `length` bytes, zero but for a header that says where the blocks are.
+/// The version that a header says; 0 where the slice has none.
+pub fn version(image: &[u8]) -> u32 {
+    image.get(44..48).map_or(0, |bytes| u32::from_le_bytes(bytes.try_into().unwrap()))
+}
+
+/// `length` bytes of version 2.1, zero but for a header that says where the blocks are.
 pub fn blank(length: usize, index: u64, slots: u64, names: u64, segments: u64) -> Vec<u8> {
     let mut image = vec![0; length];
     header(&mut image, index, slots, names, segments);
@@ -31,7 +42,7 @@ pub fn header(image: &mut [u8], index: u64, slots: u64, names: u64, segments: u6
     for (at, number) in [(8, index), (16, slots), (24, names), (32, segments)] {
         put64(image, at, number);
     }
-    put32(image, 44, 0x0002_0000);
+    put32(image, 44, V2_1);
 }
 
 /// Writes names, each with its zero, and answers where their list ends.
@@ -123,8 +134,8 @@ pub fn sheet(rows: &[Row]) -> Vec<u8> {
     sheet
 }
 
-/// The rows of a sheet that none of 22 to 27 refuses.
-pub fn lawful_rows(sheet: &[u8]) -> Option<Vec<Row>> {
+/// The rows of a sheet that none of 22 to 27 refuses on an image of this version.
+pub fn lawful_rows(sheet: &[u8], version: u32) -> Option<Vec<Row>> {
     let count = u32::from_le_bytes(sheet.get(..4)?.try_into().unwrap()) as usize;
     if !(1..=64).contains(&count) {
         return None;
@@ -136,9 +147,9 @@ pub fn lawful_rows(sheet: &[u8]) -> Option<Vec<Row>> {
         let length = u128::from(n) * u128::from(m) * size(row[12]) as u128;
         let (name, rest) = bodies.split_at_checked(row[13].into())?;
         let (data, rest) = rest.split_at_checked(usize::try_from(length).ok()?)?;
-        let known = size(row[12]) > 0 && row[14..] == [0, 0];
+        let good = known(version, row[12]) && row[14..] == [0, 0];
         let new = !rows.iter().any(|before| before.name == name);
-        if !known || !new || name.is_empty() || name.contains(&0) {
+        if !good || !new || name.is_empty() || name.contains(&0) {
             return None;
         }
         rows.push(Row::new(name, row[12], n, m, data));
@@ -147,7 +158,20 @@ pub fn lawful_rows(sheet: &[u8]) -> Option<Vec<Row>> {
     bodies.is_empty().then_some(rows)
 }
 
-/// Bytes of an element of a type; 0 for an unknown one.
+/// The types that an image of this version may hold are 1 to this one.
+pub fn last_type(version: u32) -> u8 {
+    if version == V2_1 {
+        11
+    } else {
+        10
+    }
+}
+
+fn known(version: u32, kind: u8) -> bool {
+    (1..=last_type(version)).contains(&kind)
+}
+
+/// Bytes of an element of a type; 0 for one that no version knows.
 pub fn size(kind: u8) -> usize {
-    [0, 1, 2, 4, 8, 1, 2, 4, 8, 4, 8].get(usize::from(kind)).copied().unwrap_or(0)
+    [0, 1, 2, 4, 8, 1, 2, 4, 8, 4, 8, 1].get(usize::from(kind)).copied().unwrap_or(0)
 }

@@ -1,5 +1,5 @@
-//! Document 01 once more, sentence by sentence and slowly: whole numbers are `u128`, an append is
-//! the list of its stores, and they are made one by one.
+//! Document 01 once more, with the changes of document 02, sentence by sentence and slowly: whole
+//! numbers are `u128`, an append is the list of its stores, and they are made one by one.
 //!
 //! It stands in for the library where there is no archive, and it can be told to make a hurried
 //! builder's [`Fault`], so that the tests can be tested: each must be noticed.
@@ -76,6 +76,15 @@ faults! {
     AllStoresAtOnce,
     DoneCountsChanges,
     EmptyChunkAtEndOfUse,
+    VersionByMajor,
+    CharacterKnownIn2_0,
+    CharacterUnknownIn2_1,
+    TypeTwelveKnown,
+    CharacterSigned,
+    CreateMakes2_0,
+    CharacterInAnySheet,
+    CharacterInNoSheet,
+    AppendMakes2_1,
 }
 
 pub struct Model {
@@ -89,9 +98,12 @@ fn number(bytes: &[u8], at: usize, width: usize) -> u128 {
     (0..width).rev().fold(0, |sum, n| sum * 256 + u128::from(bytes[at + n]))
 }
 
+const VERSION_2_0: u128 = 0x0002_0000;
+const VERSION_2_1: u128 = 0x0002_0001;
+
 fn width(kind: u8) -> u128 {
     match kind {
-        1 | 5 => 1,
+        1 | 5 | 11 => 1,
         2 | 6 => 2,
         3 | 7 | 9 => 4,
         4 | 8 | 10 => 8,
@@ -138,6 +150,7 @@ impl Listed {
 }
 
 struct View {
+    version: u128,
     index: u128,
     slots: u128,
     names_at: u128,
@@ -156,6 +169,7 @@ impl View {
 
 /// What an entry is tested against.
 struct Limits {
+    version: u128,
     length: u128,
     names: u128,
     index: (u128, u128),
@@ -202,7 +216,10 @@ impl Model {
         if number(image, 0, 8) != 0x65DF_65DF_65DF_65DF {
             return Err(3);
         }
-        if number(image, 44, 4) != 0x0002_0000 {
+        // "Number 4 is for versions other than these two."
+        let version = number(image, 44, 4);
+        let excused = self.has(Fault::VersionByMajor) && version >> 16 == 2;
+        if version != VERSION_2_0 && version != VERSION_2_1 && !excused {
             return Err(4);
         }
         for text in [48, 112] {
@@ -262,12 +279,13 @@ impl Model {
             return Err(11);
         }
 
-        let limits = Limits { length, names: names.len() as u128, index: index_block, name_block };
+        let count = names.len() as u128;
+        let limits = Limits { version, length, names: count, index: index_block, name_block };
         let mut entries: Vec<Listed> = Vec::new();
         let mut worst = None;
         for slot in 0..slots {
             let entry = Listed::at(image, (index + 32 * slot) as usize);
-            if self.has(Fault::TestsBeforeListEnd) && entry.location == 0 && entry.kind > 10 {
+            if self.has(Fault::TestsBeforeListEnd) && entry.location == 0 && entry.kind > 11 {
                 return Err(13);
             }
             if entry.location == 0 {
@@ -282,9 +300,37 @@ impl Model {
             }
             entries.push(entry);
         }
-        match worst {
-            Some(verdict) => Err(verdict),
-            None => Ok(View { index, slots, names_at, segments, names, list_end, entries }),
+        if let Some(verdict) = worst {
+            return Err(verdict);
+        }
+        Ok(View { version, index, slots, names_at, segments, names, list_end, entries })
+    }
+
+    /// "A type is now known by the image's version, 11 in 2.1 only."
+    fn known(&self, kind: u8, version: u128) -> bool {
+        match kind {
+            1..=10 => true,
+            11 => version == VERSION_2_1,
+            12 => self.has(Fault::TypeTwelveKnown),
+            _ => false,
+        }
+    }
+
+    fn known_entry(&self, kind: u8, version: u128) -> bool {
+        match self.fault {
+            Some(Fault::TypeZeroKnown) if kind == 0 => true,
+            Some(Fault::CharacterKnownIn2_0) if kind == 11 => true,
+            Some(Fault::CharacterUnknownIn2_1) if kind == 11 => false,
+            _ => self.known(kind, version),
+        }
+    }
+
+    /// The row's type is judged by the version of the image that the sheet is for.
+    fn known_row(&self, kind: u8, version: u128) -> bool {
+        match self.fault {
+            Some(Fault::CharacterInAnySheet) if kind == 11 => true,
+            Some(Fault::CharacterInNoSheet) if kind == 11 => false,
+            _ => self.known(kind, version),
         }
     }
 
@@ -293,7 +339,7 @@ impl Model {
         if entry.location < 256 || negative {
             return 12;
         }
-        if width(entry.kind) == 0 && !(self.has(Fault::TypeZeroKnown) && entry.kind == 0) {
+        if !self.known_entry(entry.kind, limits.version) {
             return 13;
         }
         if entry.id >= limits.names {
@@ -347,7 +393,7 @@ impl Model {
         view.entries.iter().find(here).copied().ok_or(42)
     }
 
-    fn rows<'s>(&self, sheet: &'s [u8]) -> Verdict<Vec<Row<'s>>> {
+    fn rows<'s>(&self, sheet: &'s [u8], version: u128) -> Verdict<Vec<Row<'s>>> {
         if sheet.len() < 4 {
             return Err(22);
         }
@@ -371,7 +417,7 @@ impl Model {
         }
         for row in 0..count {
             let at = 4 + 16 * row;
-            let known = width(sheet[at + 12]) != 0;
+            let known = self.known_row(sheet[at + 12], version);
             if !known || sheet[at + 13] == 0 || sheet[at + 14] != 0 || sheet[at + 15] != 0 {
                 return Err(24);
             }
@@ -420,7 +466,7 @@ impl Model {
         if odd(view.index, view.slots) || odd(view.names_at, view.segments) {
             return Err(21);
         }
-        let rows = self.rows(sheet)?;
+        let rows = self.rows(sheet, view.version)?;
 
         let text = |&(at, length): &(usize, usize)| &image[at..at + length];
         let old_names: Vec<&[u8]> = view.names.iter().map(text).collect();
@@ -684,8 +730,10 @@ impl Library for Model {
             let unused = 64 - 8 * size as u32;
             let signed = ((unsigned << unused) as i64 >> unused) as u64;
             let signed = if self.has(Fault::SignedNotExtended) { unsigned } else { signed };
+            // "A character element is an unsigned number."
             Ok(match entry.kind {
-                1..=4 => [1, unsigned],
+                11 if self.has(Fault::CharacterSigned) => [2, signed],
+                1..=4 | 11 => [1, unsigned],
                 5..=8 => [2, signed],
                 9 => [3, unsigned],
                 _ => [4, unsigned],
@@ -728,6 +776,8 @@ impl Library for Model {
         if self.has(Fault::CreateKeepsReserved) {
             image[176..256].copy_from_slice(&reserved);
         }
+        // "Create makes 2.1."
+        let version = if self.has(Fault::CreateMakes2_0) { VERSION_2_0 } else { VERSION_2_1 };
         let header: [(usize, &[u8]); 9] = [
             (0, &0x65DF_65DF_65DF_65DF_u64.to_le_bytes()),
             (8, &256_u64.to_le_bytes()),
@@ -735,7 +785,7 @@ impl Library for Model {
             (24, &names.to_le_bytes()),
             (32, &segments.to_le_bytes()),
             (40, &schema_version.to_le_bytes()),
-            (44, &0x0002_0000_u32.to_le_bytes()),
+            (44, &(version as u32).to_le_bytes()),
             (48, application),
             (112, schema),
         ];
@@ -764,6 +814,9 @@ impl Library for Model {
                 image[at..at + 8].copy_from_slice(&word);
                 done += 1;
             }
+        }
+        if done > 0 && self.has(Fault::AppendMakes2_1) {
+            image[44] = 1;
         }
         *out = [done.min(limit), whole];
         if self.has(Fault::DoneCountsChanges) {

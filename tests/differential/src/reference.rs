@@ -1,4 +1,5 @@
-//! Document 01 in plain Rust, written from the paper alone.
+//! Document 01 in plain Rust, with what document 02 has changed of it (W-201), written from the
+//! papers alone.
 //!
 //! It is the independent second opinion of the differential tests and the baseline of the
 //! benchmark: a refusal is `Err` with its number, and nothing else is shared with the library.
@@ -9,7 +10,6 @@ use std::ffi::CStr;
 const HEADER: u64 = 256;
 const LONGEST_IMAGE: usize = 1 << 30;
 const MAGIC: [u8; 8] = [0xDF, 0x65, 0xDF, 0x65, 0xDF, 0x65, 0xDF, 0x65];
-const VERSION: u32 = 0x0002_0000;
 const SLOT: usize = 32;
 const SEGMENT: usize = 64;
 const WORD: usize = 8;
@@ -61,14 +61,36 @@ fn u64_at(bytes: &[u8], at: usize) -> u64 {
     u64::from_le_bytes(bytes[at..at + 8].try_into().unwrap())
 }
 
-/// Bytes of one element, for types 1 to 10.
-fn size_of(kind: u8) -> Option<u64> {
-    match kind {
-        1 | 5 => Some(1),
-        2 | 6 => Some(2),
-        3 | 7 | 9 => Some(4),
-        4 | 8 | 10 => Some(8),
-        _ => None,
+/// A version that opens.
+#[derive(Clone, Copy)]
+enum Version {
+    V2_0 = 0x0002_0000,
+    V2_1 = 0x0002_0001,
+}
+
+impl Version {
+    fn read(image: &[u8]) -> Option<Version> {
+        let number = u32_at(image, 44);
+        [Version::V2_0, Version::V2_1].into_iter().find(|&version| version as u32 == number)
+    }
+
+    fn last_type(self) -> u8 {
+        match self {
+            Version::V2_0 => 10,
+            Version::V2_1 => 11,
+        }
+    }
+
+    /// Bytes of one element, for the types that the version knows.
+    fn size_of(self, kind: u8) -> Option<u64> {
+        match kind {
+            _ if kind > self.last_type() => None,
+            1 | 5 | 11 => Some(1),
+            2 | 6 => Some(2),
+            3 | 7 | 9 => Some(4),
+            4 | 8 | 10 => Some(8),
+            _ => None,
+        }
     }
 }
 
@@ -131,6 +153,7 @@ impl Block {
 /// An image that opened.
 struct Image<'a> {
     bytes: &'a [u8],
+    version: Version,
     index: Block,
     entries: &'a [[u8; SLOT]],
     frames: u64,
@@ -157,9 +180,7 @@ impl<'a> Image<'a> {
         if bytes[..8] != MAGIC {
             return Err(3);
         }
-        if u32_at(bytes, 44) != VERSION {
-            return Err(4);
-        }
+        let version = Version::read(bytes).ok_or(4_u64)?;
         if !bytes[48..112].contains(&0) || !bytes[112..176].contains(&0) {
             return Err(5);
         }
@@ -191,7 +212,7 @@ impl<'a> Image<'a> {
             if (entry.location as i64) < HEADER as i64 {
                 return Err(12);
             }
-            let size = size_of(entry.kind).ok_or(13_u64)?;
+            let size = version.size_of(entry.kind).ok_or(13_u64)?;
             if usize::from(entry.id) >= names.len() {
                 return Err(14);
             }
@@ -217,6 +238,7 @@ impl<'a> Image<'a> {
         }
         Ok(Image {
             bytes,
+            version,
             index,
             entries: &slots[..listed],
             frames,
@@ -255,7 +277,8 @@ impl<'a> Image<'a> {
 
     /// The bytes of a listed chunk, which lies within the slice.
     fn data(&self, entry: Entry) -> &'a [u8] {
-        let length = size_of(entry.kind).and_then(|size| bytes_of(entry.n, entry.m, size));
+        let size = self.version.size_of(entry.kind);
+        let length = size.and_then(|size| bytes_of(entry.n, entry.m, size));
         &self.bytes[entry.location as usize..][..length.unwrap_or(0) as usize]
     }
 }
@@ -324,7 +347,7 @@ pub fn element(image: &[u8], frame: u64, name: &[u8], k: u64) -> Answer<Element>
     }
     let data = image.data(entry);
     Ok(match entry.kind {
-        1 => Element::Unsigned(u8::from_le_bytes(at(data, k)).into()),
+        1 | 11 => Element::Unsigned(u8::from_le_bytes(at(data, k)).into()),
         2 => Element::Unsigned(u16::from_le_bytes(at(data, k)).into()),
         3 => Element::Unsigned(u32::from_le_bytes(at(data, k)).into()),
         4 => Element::Unsigned(u64::from_le_bytes(at(data, k))),
@@ -367,7 +390,7 @@ pub fn create(
         fresh[at..at + 8].copy_from_slice(&number.to_le_bytes());
     }
     fresh[40..44].copy_from_slice(&schema_version.to_le_bytes());
-    fresh[44..48].copy_from_slice(&VERSION.to_le_bytes());
+    fresh[44..48].copy_from_slice(&(Version::V2_1 as u32).to_le_bytes());
     fresh[48..][..application.len()].copy_from_slice(application);
     fresh[112..][..schema.len()].copy_from_slice(schema);
     Ok(())
@@ -382,7 +405,8 @@ struct Row<'s> {
     data: &'s [u8],
 }
 
-fn rows(sheet: &[u8]) -> Answer<Vec<Row<'_>>> {
+/// The rows of a sheet, by the types of the image's version.
+fn rows(sheet: &[u8], version: Version) -> Answer<Vec<Row<'_>>> {
     let (count, rest) = sheet.split_first_chunk().ok_or(22_u64)?;
     let count = u32::from_le_bytes(*count) as usize;
     if count == 0 || count > MOST_ROWS {
@@ -390,13 +414,15 @@ fn rows(sheet: &[u8]) -> Answer<Vec<Row<'_>>> {
     }
     let (table, mut bodies) = rest.split_at_checked(16 * count).ok_or(23_u64)?;
     let (table, _) = table.as_chunks::<16>();
-    if table.iter().any(|row| size_of(row[12]).is_none() || row[13] == 0 || row[14..] != [0, 0]) {
+    let bad =
+        |row: &[u8; 16]| version.size_of(row[12]).is_none() || row[13] == 0 || row[14..] != [0, 0];
+    if table.iter().any(bad) {
         return Err(24);
     }
     let mut rows = Vec::with_capacity(count);
     for row in table {
         let (n, m, kind) = (u64_at(row, 0), u32_at(row, 8), row[12]);
-        let length = size_of(kind).and_then(|size| bytes_of(n, m, size)).ok_or(25_u64)?;
+        let length = version.size_of(kind).and_then(|size| bytes_of(n, m, size)).ok_or(25_u64)?;
         let (name, rest) = bodies.split_at_checked(row[13].into()).ok_or(25_u64)?;
         let length = usize::try_from(length).map_err(|_| 25_u64)?;
         let (data, rest) = rest.split_at_checked(length).ok_or(25_u64)?;
@@ -451,7 +477,7 @@ impl<'s> Plan<'s> {
         if index.start % WORD != 0 || names.start % WORD != 0 {
             return Err(21);
         }
-        let rows = rows(sheet)?;
+        let rows = rows(sheet, image.version)?;
 
         let mut new_names = Vec::new();
         let mut order = Vec::with_capacity(rows.len());

@@ -81,9 +81,9 @@ pub fn run(library: &dyn Library, options: &Options) -> Totals {
     let mut totals =
         Totals { passed: 0, failed: 0, comparisons: 0, moments: 0, met: BTreeMap::new() };
     let wanted = |name: &str| name.contains(&options.only);
-    for (name, case) in cases::CASES {
-        if wanted(name) {
-            totals.test(name, || {
+    for (name, case) in cases::all() {
+        if wanted(&name) {
+            totals.test(&name, || {
                 case(library);
                 (true, String::new())
             });

@@ -2,12 +2,12 @@
 
 use crate::ask::Ask;
 use crate::generate;
-use crate::images::{sheet, size};
+use crate::images::{sheet, size, version};
 use crate::library::Linked;
 use crate::random::Rng;
 use dialmoth::{Element, Refusal, Row, Type};
 
-const TYPES: [Type; 10] = [
+const TYPES: [Type; 11] = [
     Type::U8,
     Type::U16,
     Type::U32,
@@ -18,6 +18,7 @@ const TYPES: [Type; 10] = [
     Type::I64,
     Type::Float,
     Type::Double,
+    Type::Character,
 ];
 
 fn fields(e: dialmoth::Entry) -> [u64; 7] {
@@ -47,7 +48,7 @@ pub fn hold() {
         let mut image = generate::fresh(&mut rng);
         let mut known = vec![b"no such name".to_vec()];
         for _ in 0..4 {
-            let rows = generate::rows(&mut rng, &known);
+            let rows = generate::rows(&mut rng, version(&image), &known);
             let own: Vec<_> = rows
                 .iter()
                 .map(|row| Row {

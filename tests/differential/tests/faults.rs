@@ -62,6 +62,10 @@ fn a_run_of_appends_notices_what_breaks_it() {
         FlagsNotCopied,
         AllStoresAtOnce,
         DoneCountsChanges,
+        CharacterUnknownIn2_1,
+        CharacterInAnySheet,
+        CharacterInNoSheet,
+        AppendMakes2_1,
     ];
     let number = GROUPS.iter().position(|group| group.name.contains("word for word")).unwrap();
     for fault in faults {

@@ -11,7 +11,7 @@ use Rattle.gsd_bytes.proofs.size_of.Tie as tie
 
 returns : tie.Need-returns
 unfolding sizeOf
-returns c = (⊎-elim (size-at 1 _) (size-at 5 _) (c .match .keys1), search needs)
+returns c = (⊎-elim (size-at 1 _) (⊎-elim (size-at 5 _) (size-at 11 _)) (c .match .keys1), search needs)
 
 returns-2 : tie.Need-returns-2
 unfolding sizeOf
@@ -31,7 +31,7 @@ either h = (λ a. h (inl a), λ b. h (inr b))
 past : {k x : ℕ} → k ≤ x → (x ≡ k → ⊥) → suc k ≤ x
 past l n = omega arith
 
--- a type above 0 that is in no arm lies past each of them, from 1 to 10
+-- a type above 0 that is in no arm lies past each of them, from 1 to 11
 returns-5 : tie.Need-returns-5
 returns-5 c =
     let r = c .match .rest in
@@ -39,10 +39,11 @@ returns-5 c =
     let b = either (r .0 .0 .1) in
     let d = either (r .0 .1) in
     let e = either (r .1) in
+    let a′ = either (a .1) in
     let d′ = either (d .1) in
     let e′ = either (e .1) in (
       sym (size-none (c .before .args .kind) (λ l.
-          past (past (past (past (past (past (past (past (past (past l (a .0)) (b .0)) (d .0)) (e .0)) (a .1)) (b .1)) (d′ .0)) (e′ .0)) (d′ .1)) (e′ .1))),
+          past (past (past (past (past (past (past (past (past (past (past l (a .0)) (b .0)) (d .0)) (e .0)) (a′ .0)) (b .1)) (d′ .0)) (e′ .0)) (d′ .1)) (e′ .1)) (a′ .1))),
       search needs,
     )
 

@@ -47,8 +47,8 @@ returns-4 : tie.Need-returns-4
 returns-4 c =
     let sized = c .before .before .before .before in
     let tests = c .before in
-    let known = sized .before .before .pre .0 in
-    let eight = size-eight _ _ (sized .size-of .ensures .0) known (tests .before .before .if1 .left) (tests .before .if2 .left) (tests .if3 .left) in
+    let some = sized .before .before .pre .0 in
+    let eight = size-eight _ _ (sized .size-of .ensures .0) some (tests .before .before .if1 .left) (tests .before .if2 .left) (tests .if3 .left) in
     bits-are _ _ _ 8 _ eight (c .u64-at .ensures) (search needs)
 
 pub bits-at-spec : {M : Type 1} → statement M

@@ -2,7 +2,7 @@
 use mathlib.Core.Path.{sym, _∙_}
 use native.Mathlib.Omega.{arith}
 use borrow.Author.Needs.{needs}
-use Rattle.gsd_format.proofs.Types.{known-kind}
+use Rattle.gsd_format.proofs.Types.{size-kind}
 use Rattle.gsd_format.proofs.Elements.{element-behind}
 use Rattle.gsd_elements.proofs.Elements.{few-elements, element-within, element-here}
 use Rattle.gsd_elements.proofs.element_in.Statement.{statement}
@@ -35,11 +35,11 @@ bits-at-requires c κs =
     let few = c .before .before in
     let held = few .before .before .before .before .pre in
     let size = c .before .size-of .ensures .0 in
-    (held .typed, omega (arith, element-within _ _ held _ _ (few .if1 .left) size, size))
+    (held .sized, omega (arith, element-within _ _ held _ _ (few .if1 .left) size, size))
 
 element-of-requires : tie.Need-element-of-requires
 element-of-requires c κs =
-    let kind = known-kind _ (c .before .before .before .before .before .before .before .pre .typed) in
+    let kind = size-kind _ (c .before .before .before .before .before .before .before .pre .sized) in
     (kind .0, (kind .1, c .bits-at .ensures .1))
 
 returns-2 : tie.Need-returns-2

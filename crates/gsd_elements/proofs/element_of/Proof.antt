@@ -1,13 +1,13 @@
 -- The kind of number by the type.
 use Prim.Native.Nat.{_^_, _<_}
-use mathlib.Core.Path.{sym, _∙_, ap}
+use mathlib.Core.Path.{_≡_, sym, _∙_, ap}
 use native.Mathlib.Omega.{arith}
 use mir.Syntax.{w64}
 use mir.Facts.{toZ-ofZ}
 use borrow.Author.Needs.{needs}
 use Rattle.gsd_format.specs.declared.Element.{Element}
 use Rattle.gsd_format.specs.Types.{sizeOf}
-use Rattle.gsd_format.proofs.Elements.{signed-is, element-unsigned, element-signed, element-single, element-double}
+use Rattle.gsd_format.proofs.Elements.{signed-is, element-unsigned, element-signed, element-single, element-double, element-character}
 use Rattle.gsd_elements.proofs.element_of.Statement.{statement}
 use Rattle.gsd_elements.proofs.element_of.Tie as tie
 
@@ -48,8 +48,15 @@ double-requires c κs = search needs
 
 returns-4 : tie.Need-returns-4
 returns-4 c =
-    let args = c .before .before .before .before .args in
-    ap (λ v. Element.Double v (args .bits)) (c .double .ensures) ∙ sym (element-double (args .kind) (args .bits) (omega arith))
+    let bits = c .before .before .before .before .before .args .bits in
+    rw (c .before .if4 .taken) (ap (λ v. Element.Double v bits) (c .double .ensures) ∙ sym (element-double bits))
+
+-- what is left is type 11
+returns-5 : tie.Need-returns-5
+returns-5 c =
+    let start = c .before .before .before .before in
+    let eleven : start .args .kind ≡ 11 = omega arith in
+    rw eleven (sym (element-character (start .args .bits)))
 
 pub element-of-spec : {M : Type 1} → statement M
 element-of-spec =
@@ -63,4 +70,5 @@ element-of-spec =
     single-requires
     returns-3
     double-requires
-    returns-4)
+    returns-4
+    returns-5)

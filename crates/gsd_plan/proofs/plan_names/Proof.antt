@@ -13,7 +13,7 @@ use Rattle.gsd_open.proofs.Surveys.{spans, few-names as survey-few}
 row-count-requires : tie.Need-row-count-requires
 row-count-requires c κs =
     let start = c .before .before .before .before in
-    accepted _ (start .pre .1 .1 .0) .long
+    accepted _ _ (start .pre .1 .1 .0) .long
 
 find-ids-requires : tie.Need-find-ids-requires
 find-ids-requires c κs =
@@ -25,7 +25,7 @@ find-ids-requires c κs =
       long = long;
       located = located;
       counted = c .row-count .ensures;
-      distinct = accepted _ sheet .distinct;
+      distinct = accepted _ _ sheet .distinct;
     }
 
 add-if1 : tie.Need-add-if1
@@ -51,9 +51,10 @@ plan-rows-requires c κs =
     let find-ids = c .before .before .before .before .before in
     let start = find-ids .before .before .before .before .before .before in
     let (told, (good, (sheet, (long, located)))) = start .pre in
-    let found = find-ids .find-ids .ensures in (
-      sees _ _ _ told good,
-      asked _ _ _ _ _ _ (listed-many _ _ _ told good) (listed-are _ _ _ told good) (found .0) sheet (found .1 .long ∙ long) (located-kept located (found .1)),
+    let found = find-ids .find-ids .ensures in
+    let see = sees _ _ _ told good in (
+      see,
+      asked _ _ _ _ _ _ (listed-many _ _ _ told good) (listed-are _ _ _ told good) (found .0) see sheet (found .1 .long ∙ long) (located-kept located (found .1)),
     )
 
 same-length-2 : tie.Need-same-length-2

@@ -13,16 +13,16 @@ table-number-requires c κs = search needs
 returns : tie.Need-returns
 returns c =
     let s = c .before .before .before .before .args .sheet .now in
-    (c .before .table-number .ensures ∙ sym (number-table s (λ z. c .if1 .taken (c .before .table-number .ensures ∙ z))), λ z. absurd (c .if1 .taken z))
+    (c .before .table-number .ensures ∙ sym (number-table _ s (λ z. c .if1 .taken (c .before .table-number .ensures ∙ z))), λ z. absurd (c .if1 .taken z))
 
 row-count-requires : tie.Need-row-count-requires
-row-count-requires c κs = tabled (c .before .before .before .before .args .sheet .now) (sym (c .before .table-number .ensures) ∙ c .if1 .left) .long
+row-count-requires c κs = tabled _ (c .before .before .before .before .args .sheet .now) (sym (c .before .table-number .ensures) ∙ c .if1 .left) .long
 
 place-rows-requires : tie.Need-place-rows-requires
 place-rows-requires c κs =
     let first = c .before .before in
     let start = first .before .before .before .before in
-    let t : Tabled (start .args .sheet .now) = tabled _ (sym (first .before .table-number .ensures) ∙ first .if1 .left) in
+    let t : Tabled (start .args .sheet .now) = tabled _ _ (sym (first .before .table-number .ensures) ∙ first .if1 .left) in
     (start .pre, (c .before .row-count .ensures, (omega (arith, t .few), t .whole)))
 
 same-length : tie.Need-same-length
@@ -31,10 +31,11 @@ same-length c = search needs
 returns-2 : tie.Need-returns-2
 returns-2 c =
     let first = c .before .before .before .before .before .before in
-    let s = first .before .before .before .before .args .sheet .now in
-    let table : tableTest s ≡ 0 = sym (first .before .table-number .ensures) ∙ first .if1 .left in
+    let x = first .before .before .before .before .args in
+    let s = x .sheet .now in
+    let table : tableTest (x .version) s ≡ 0 = sym (first .before .table-number .ensures) ∙ first .if1 .left in
     let place = c .before .before .before .place-rows in
-    (place .ensures .0 ∙ sym (number-end s table (λ z. c .if2 .taken (place .ensures .0 ∙ z))), λ z. absurd (c .if2 .taken z))
+    (place .ensures .0 ∙ sym (number-end _ s table (λ z. c .if2 .taken (place .ensures .0 ∙ z))), λ z. absurd (c .if2 .taken z))
 
 names-number-requires : tie.Need-names-number-requires
 names-number-requires c κs =
@@ -46,11 +47,12 @@ same-length-2 c = search needs
 returns-3 : tie.Need-returns-3
 returns-3 c =
     let first = c .before .before .before .before .before .before .before .before in
-    let s = first .before .before .before .before .args .sheet .now in
-    let table : tableTest s ≡ 0 = sym (first .before .table-number .ensures) ∙ first .if1 .left in
+    let x = first .before .before .before .before .args in
+    let s = x .sheet .now in
+    let table : tableTest (x .version) s ≡ 0 = sym (first .before .table-number .ensures) ∙ first .if1 .left in
     let place = c .before .before .before .before .before .place-rows in
     let end : endTest s ≡ 0 = sym (place .ensures .0) ∙ c .before .before .if2 .left in
-    (c .names-number .ensures ∙ sym (number-names s table end), λ z. place .ensures .1 (c .before .before .if2 .left))
+    (c .names-number .ensures ∙ sym (number-names _ s table end), λ z. place .ensures .1 (c .before .before .if2 .left))
 
 pub sheet-rows-spec : {M : Type 1} → statement M
 sheet-rows-spec =

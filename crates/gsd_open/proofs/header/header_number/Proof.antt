@@ -1,8 +1,9 @@
 -- The tests in their order.
 use mathlib.Core.Path.{sym, _∙_, ap}
 use mathlib.Core.Bool.{not}
-use borrow.Author.Tests.{lt-ltb, le-ltb, eq-eqb, ne-eqb}
+use borrow.Author.Tests.{lt-ltb, le-ltb}
 use Rattle.gsd_format.specs.Refusals.{_⇒_}
+use Rattle.gsd_format.specs.Header.{supported}
 use Rattle.gsd_format.specs.Opening.{headerTest}
 use Rattle.gsd_format.proofs.Refusals.{decides, goes-on}
 use borrow.Author.Needs.{needs}
@@ -31,15 +32,18 @@ returns-3 c =
 u32-at-requires : tie.Need-u32-at-requires
 u32-at-requires c κs = search needs
 
+supported-requires : tie.Need-supported-requires
+supported-requires c κs = search needs
+
 returns-4 : tie.Need-returns-4
 unfolding headerTest
 returns-4 c =
-    let three = c .before .before in
+    let three = c .before .before .before in
     let two = three .before .before in
     let long = le-ltb _ _ (two .before .if1 .left) in
     let short = le-ltb _ _ (two .if2 .left) in
     let magic = ap not (sym (three .before .has-magic .ensures)) ∙ three .if3 .left in
-    let version = ap not (ne-eqb _ _ (λ e. c .if4 .taken (c .before .u32-at .ensures .0 ∙ e))) in
+    let version = ap not (sym (c .before .supported .ensures ∙ ap (λ v. supported v) (c .before .before .u32-at .ensures .0))) ∙ c .if4 .taken in
     sym (goes-on _ 1 _ long ∙ goes-on _ 2 _ short ∙ goes-on _ 3 _ magic ∙ decides _ 3 _ version)
 
 text-open-requires : tie.Need-text-open-requires
@@ -52,12 +56,12 @@ returns-5 : tie.Need-returns-5
 unfolding headerTest
 returns-5 c =
     let four = c .before .before in
-    let three = four .before .before in
+    let three = four .before .before .before in
     let two = three .before .before in
     let long = le-ltb _ _ (two .before .if1 .left) in
     let short = le-ltb _ _ (two .if2 .left) in
     let magic = ap not (sym (three .before .has-magic .ensures)) ∙ three .if3 .left in
-    let version = ap not (eq-eqb _ _ (sym (four .before .u32-at .ensures .0) ∙ four .if4 .left)) in
+    let version = ap not (sym (four .before .supported .ensures ∙ ap (λ v. supported v) (four .before .before .u32-at .ensures .0))) ∙ four .if4 .left in
     let texts = ap (λ t. t ⇒ 5) (sym (c .before .text-open .ensures)) in
     sym (goes-on _ 1 _ long ∙ goes-on _ 2 _ short ∙ goes-on _ 3 _ magic ∙ goes-on _ 4 _ version ∙ texts ∙ sym (c .refuse .ensures))
 
@@ -70,6 +74,7 @@ header-number-spec =
     has-magic-requires
     returns-3
     u32-at-requires
+    supported-requires
     returns-4
     text-open-requires
     refuse-requires

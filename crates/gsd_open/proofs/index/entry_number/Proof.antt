@@ -18,7 +18,7 @@ returns c =
 room-number-requires : tie.Need-room-number-requires
 room-number-requires c κs =
     let start = c .before .before in
-    (start .pre .0, (start .pre .1 .0, (fields-place _ _ _ (start .args .e) (sym (c .before .fields-number .ensures) ∙ c .if1 .left), start .pre .1 .1 .1 .fits)))
+    (start .pre .0, (start .pre .1 .0, (fields-place _ _ _ _ (start .args .e) (sym (c .before .fields-number .ensures) ∙ c .if1 .left), start .pre .1 .1 .1 .fits)))
 
 returns-2 : tie.Need-returns-2
 returns-2 c =

@@ -1,9 +1,7 @@
 -- Tests 12 to 15 in their order.
 use mathlib.Core.Path.{sym, _∙_, ap}
 use mathlib.Core.Bool.{not}
-use native.Mathlib.Omega.{arith}
 use borrow.Author.Tests.{lt-ltb, le-ltb, lt-leb, le-leb}
-use Rattle.gsd_format.specs.Types.{sizeOf}
 use Rattle.gsd_format.specs.Refusals.{_⇒_}
 use Rattle.gsd_format.proofs.Refusals.{decides, goes-on, left-holds, right-decides, neither-of}
 use Rattle.gsd_open.specs.Index.{fieldsTest}
@@ -19,16 +17,15 @@ returns-2 : tie.Need-returns-2
 unfolding fieldsTest
 returns-2 c = sym (decides _ 11 _ (right-decides _ _ (le-ltb _ _ (c .before .before .if1 .left)) ∙ le-leb _ _ (c .if2 .taken)))
 
-size-of-requires : tie.Need-size-of-requires
-size-of-requires c κs = search needs
+known-requires : tie.Need-known-requires
+known-requires c κs = search needs
 
 returns-3 : tie.Need-returns-3
 unfolding fieldsTest
 returns-3 c =
     let two = c .before .before in
-    let e = two .before .before .before .before .args .e in
     let place = neither-of _ _ (le-ltb _ _ (two .before .before .if1 .left)) (lt-leb _ _ (two .if2 .left)) in
-    let unknown = ap not (le-ltb 0 (sizeOf (e .kind)) (omega (arith, c .before .size-of .ensures .0))) in
+    let unknown = ap not (sym (c .before .known .ensures)) ∙ c .if3 .taken in
     sym (goes-on _ 12 _ place ∙ decides _ 12 _ unknown)
 
 cast-if4 : tie.Need-cast-if4
@@ -39,9 +36,8 @@ unfolding fieldsTest
 returns-4 c =
     let three = c .before .before in
     let two = three .before .before in
-    let e = two .before .before .before .before .args .e in
     let place = neither-of _ _ (le-ltb _ _ (two .before .before .if1 .left)) (lt-leb _ _ (two .if2 .left)) in
-    let known = ap not (lt-ltb 0 (sizeOf (e .kind)) (omega (arith, three .before .size-of .ensures .0))) in
+    let known = ap not (sym (three .before .known .ensures)) ∙ three .if3 .left in
     sym (goes-on _ 12 _ place ∙ goes-on _ 13 _ known ∙ decides _ 13 _ (le-leb _ _ (c .if4 .taken)))
 
 follows-last-requires : tie.Need-follows-last-requires
@@ -56,9 +52,8 @@ returns-5 c =
     let four = c .before .before in
     let three = four .before .before in
     let two = three .before .before in
-    let e = two .before .before .before .before .args .e in
     let place = neither-of _ _ (le-ltb _ _ (two .before .before .if1 .left)) (lt-leb _ _ (two .if2 .left)) in
-    let known = ap not (lt-ltb 0 (sizeOf (e .kind)) (omega (arith, three .before .size-of .ensures .0))) in
+    let known = ap not (sym (three .before .known .ensures)) ∙ three .if3 .left in
     let named = lt-leb _ _ (four .if4 .left) in
     let order = ap (λ t. not t ⇒ 15) (sym (c .before .follows-last .ensures)) in
     sym (goes-on _ 12 _ place ∙ goes-on _ 13 _ known ∙ goes-on _ 14 _ named ∙ order ∙ sym (c .refuse .ensures))
@@ -69,7 +64,7 @@ fields-number-spec =
     (tie.spec
     returns
     returns-2
-    size-of-requires
+    known-requires
     returns-3
     cast-if4
     returns-4
