@@ -13,7 +13,7 @@
  *
  * Every call answers a number: 0, or that of the refusal, listed below with its
  * name and its text. A refusal changes nothing, neither the image nor out; only
- * a refused append sets its out to 0 and 0.
+ * append and probes set their out at every call, a refused append to 0 and 0.
  *
  * Opening costs at most some passes over the image's bytes, whatever it holds,
  * but for names made on purpose to have one 32-bit fingerprint: these are
@@ -67,7 +67,7 @@ extern "C" {
     R(27, DIALMOTH_NAME_TWICE, "two rows of the sheet have one name")                           \
     R(28, DIALMOTH_NAMES_FULL, "names would pass 1,024")                                        \
     R(29, DIALMOTH_NO_ROOM, "the append would pass the image's end")                            \
-    /* Lookup, chunk and element, in this order. */                                             \
+    /* Lookup, chunk, element and probes, in this order. */                                     \
     R(40, DIALMOTH_NO_FRAME, "frame not below the number of frames")                            \
     R(41, DIALMOTH_NO_NAME, "name not listed")                                                  \
     R(42, DIALMOTH_NO_CHUNK, "no such chunk in the frame")                                      \
@@ -171,6 +171,17 @@ uint64_t dialmoth_chunk(const uint8_t *image, size_t image_length,
 uint64_t dialmoth_element(const uint8_t *image, size_t image_length,
                           uint64_t frame, const uint8_t *name,
                           size_t name_length, uint64_t k, uint64_t out[2]);
+
+/* How many entries of the index the search of a lookup probes. It is made once
+ * the image is open and the name's id is known, by chunk and element too, and
+ * halves the index; a probe reads one entry. Numbers as dialmoth_lookup.
+ * out, set at every call: the probes; an entry probed twice counts twice. Among
+ * n entries they are at most one more than n has binary digits, 17 for 40,000.
+ * With DIALMOTH_NO_CHUNK the search was made and counted; with any other refusal
+ * there was none, and out is 0. */
+uint64_t dialmoth_probes(const uint8_t *image, size_t image_length,
+                         uint64_t frame, const uint8_t *name,
+                         size_t name_length, uint64_t out[1]);
 
 /* Makes a fresh image of version 2.1 with no frame. 0 slots stand for 64, 0
  * segments for 16; it needs 256 + 32 * slots + 64 * segments bytes, and those

@@ -3,6 +3,7 @@
 //!   bench images FOLDER   writes the images that the real GSD library is timed on
 //!   bench table [FILE]    prints a table; FILE has the real library's times, lines "key µs"
 //!   bench stores          prints what appends store
+//!   bench probes          prints what lookups probe
 
 mod fingerprint;
 mod work;
@@ -133,6 +134,15 @@ impl Pass<'_> {
         times[0]
     }
 
+    /// A row, and one of what the same work takes beyond opening its image: times of library
+    /// and plain Rust, then of their openings.
+    fn beyond_opening(&mut self, what: &'static str, times: &[Duration]) {
+        self.row(what, "", times[0], times[1]);
+        let [library, other] = [0, 1].map(|side| times[side].saturating_sub(times[side + 2]));
+        let what = "the same, less the time of opening it";
+        self.rows.push(Row { what, key: "", library, other, compared: false });
+    }
+
     /// A reading call.
     fn reading(
         &mut self,
@@ -187,9 +197,9 @@ fn open(library: &dyn Library, image: &[u8]) {
     black_box(out);
 }
 
-fn lookup(library: &dyn Library, image: &[u8], frame: u64) {
+fn lookup(library: &dyn Library, image: &[u8], frame: u64, name: &[u8]) {
     let mut out = [0; 7];
-    assert_eq!(library.lookup(black_box(image), frame, b"heater", &mut out), 0);
+    assert_eq!(library.lookup(black_box(image), frame, name, &mut out), 0);
     black_box(out);
 }
 
@@ -242,13 +252,27 @@ fn opening(pass: &mut Pass) {
 
 fn days(pass: &mut Pass) {
     let (small, mut day) = (work::small(), Day::new());
-    pass.reading("lookup, 24 entries", "", |l| lookup(l, &small, 4));
-    pass.reading("lookup, 4,320 entries", "lookup_day", |l| lookup(l, &day.image, 700));
+    pass.reading("lookup, 24 entries", "", |l| lookup(l, &small, 4, b"heater"));
+    pass.reading("lookup, 4,320 entries", "lookup_day", |l| lookup(l, &day.image, 700, b"heater"));
     pass.reading("element, 4,320 entries", "", |l| element(l, &day.image, 700));
     let what = "all 4,320 chunks of a day";
     pass.both(what, "read_day", &mut day, |_| {}, work::FRAMES, |day, l, n| day.read(l, n));
     let what = "append 1,440 frames of 3 chunks in turn";
     pass.both(what, "append_day", &mut day, Day::clear, work::FRAMES, |day, l, n| day.append(l, n));
+}
+
+/// A chunk of the last of many frames.
+fn search(pass: &mut Pass) {
+    let (library, month) = (pass.library, work::month());
+    let last = |library| lookup(library, &month, work::MONTH - 1, b"probe/11/reading");
+    let sides: &mut [Side<()>] = &mut [
+        &mut |_, _| last(library),
+        &mut |_, _| last(&Reference),
+        &mut |_, _| open(library, &month),
+        &mut |_, _| open(&Reference, &month),
+    ];
+    let times = best(&mut (), |_| {}, 1, sides);
+    pass.beyond_opening("lookup, 40,000 entries", &times);
 }
 
 /// One more frame behind many entries.
@@ -261,10 +285,7 @@ fn next(pass: &mut Pass, what: &'static str, mut next: Next) {
         &mut |next, _| next.open(&Reference),
     ];
     let times = best(&mut next, Next::restore, 1, sides);
-    pass.row(what, "", times[0], times[1]);
-    let [ours, plain] = [0, 1].map(|side| times[side].saturating_sub(times[side + 2]));
-    let what = "the same, less the time of opening it";
-    pass.rows.push(Row { what, key: "", library: ours, other: plain, compared: false });
+    pass.beyond_opening(what, &times);
 }
 
 fn large(pass: &mut Pass) {
@@ -283,6 +304,7 @@ fn pass(library: &dyn Library, first: Option<&[Row]>) -> Vec<Row> {
     let mut pass = Pass { library, first, rows: Vec::new() };
     opening(&mut pass);
     days(&mut pass);
+    search(&mut pass);
     next(&mut pass, "append a frame of 3 chunks behind 40,000 entries", Next::fitting());
     next(&mut pass, "append a frame of 3 chunks, 65,536 slots", Next::doubled());
     large(&mut pass);
@@ -316,6 +338,26 @@ fn stores() {
     }
 }
 
+/// What lookups probe: exact numbers too.
+fn probes() {
+    let (library, _) = library();
+    println!("Probes of the lookups of every name in every frame; 40,000 entries, 2,500 frames.\n");
+    println!("| index | lookups | mean | most |");
+    println!("|---|---|---|---|");
+    let rows = [
+        ("16 names, none missing in any frame", work::month()),
+        ("24 names, each third missing", work::month_with_gaps()),
+    ];
+    for (what, image) in rows {
+        for (of, how) in work::probed(library, &image).iter().zip(["found", "not found"]) {
+            if of.lookups > 0 {
+                let (lookups, mean) = (grouped(of.lookups), of.probes as f64 / of.lookups as f64);
+                println!("| {what} | {lookups} {how} | {mean:.2} | {} |", of.most);
+            }
+        }
+    }
+}
+
 fn table(real: HashMap<String, f64>) {
     let (library, title) = library();
     let gsd = if real.is_empty() { "real GSD" } else { "gsd.fl" };
@@ -329,7 +371,8 @@ fn table(real: HashMap<String, f64>) {
     print(&passes, &real);
 
     println!();
-    println!("Every call opens its image first: a lookup among 4,320 entries reads them all.");
+    println!("Every call opens its image first: a lookup among 4,320 entries reads them all, and");
+    println!("some once more in its search. That among 40,000 is of their last frame.");
     println!("A day's time is the sum of each frame's best; its appends begin with create.");
     println!(
         "Buffers: reading calls find image and caches warm. The day's image is cleared before"
@@ -357,6 +400,7 @@ fn main() {
             }
         }
         ["stores"] => stores(),
+        ["probes"] => probes(),
         ["table"] => table(HashMap::new()),
         ["table", file] => {
             let text = fs::read_to_string(file).unwrap();
@@ -364,7 +408,7 @@ fn main() {
             table(times.map(|(key, time)| (key.into(), time.parse().unwrap())).collect());
         }
         _ => {
-            eprintln!("usage: bench images FOLDER | bench table [FILE] | bench stores");
+            eprintln!("usage: bench images FOLDER | table [FILE] | stores | probes");
             process::exit(2);
         }
     }

@@ -1,6 +1,7 @@
-//! What is timed: a month's index, many names, a day of frames, one large chunk.
+//! What is timed and counted: a month's index, many names, a day of frames, one large chunk.
 
 use crate::fingerprint;
+use differential::ask::Ask;
 use differential::images::{blank, lawful_rows, put_names, put_slots, sheet, version, Row, Slot};
 use differential::library::{Create, Library, Reference};
 use std::hint::black_box;
@@ -9,23 +10,68 @@ pub const FRAMES: usize = 1440;
 
 const ENTRIES: usize = 40_000;
 
-/// 40,000 entries: 2,500 frames of 16 names; and some free slots, with room for their data.
-fn month_and(free: usize) -> Vec<u8> {
-    let names: Vec<_> = (0..16).map(|n| format!("probe/{n:02}/reading")).collect();
+/// Frames of a month's index.
+pub const MONTH: u64 = 2500;
+
+/// 2,500 frames of so many names, in which 40,000 chunks are there; and some free slots, with room
+/// for their data.
+fn index(names: u16, there: impl Fn(u64, u16) -> bool, free: usize) -> Vec<u8> {
     let (slots, segments) = (ENTRIES + free, 8);
     let data = 256 + 32 * slots + 64 * segments;
     let mut image =
         blank(data + 8 * slots, 256, slots as u64, (data - 64 * segments) as u64, segments as u64);
-    put_names(&mut image, data - 64 * segments, names.iter().map(String::as_bytes));
-    let entries: Vec<_> = (0..ENTRIES)
-        .map(|n| Slot::bytes(n as u64 / 16, n as u16 % 16, (data + 8 * n) as u64, 8))
+    let keys = (0..MONTH).flat_map(|frame| (0..names).map(move |id| (frame, id)));
+    let entries: Vec<_> = keys
+        .filter(|&(frame, id)| there(frame, id))
+        .enumerate()
+        .map(|(n, (frame, id))| Slot::bytes(frame, id, (data + 8 * n) as u64, 8))
         .collect();
+    assert_eq!(entries.len(), ENTRIES);
     put_slots(&mut image, 256, &entries);
+    let names: Vec<_> = (0..names).map(|n| format!("probe/{n:02}/reading")).collect();
+    put_names(&mut image, data - 64 * segments, names.iter().map(String::as_bytes));
     image
+}
+
+/// 16 names, all of them in every frame.
+fn month_and(free: usize) -> Vec<u8> {
+    index(16, |_, _| true, free)
 }
 
 pub fn month() -> Vec<u8> {
     month_and(0)
+}
+
+/// 24 names, each third of them missing: from the first on in even frames, from the third on in odd
+/// ones.
+pub fn month_with_gaps() -> Vec<u8> {
+    index(24, |frame, id| u64::from(id) % 3 != 2 * (frame % 2), 0)
+}
+
+/// What the searches of some lookups probe.
+#[derive(Default)]
+pub struct Probed {
+    pub lookups: u64,
+    pub probes: u64,
+    pub most: u64,
+}
+
+/// Every name in every frame: those found, and those not.
+pub fn probed(library: &dyn Library, image: &[u8]) -> [Probed; 2] {
+    let [frames, names, _] = library.counts(image).unwrap();
+    let names: Vec<_> = (0..names).map(|n| library.nth_name(image, n).unwrap()).collect();
+    let mut probed = [Probed::default(), Probed::default()];
+    for frame in 0..frames {
+        for name in &names {
+            let (number, probes) = library.probed(image, frame, name);
+            assert!(number == 0 || number == 42);
+            let of = &mut probed[usize::from(number == 42)];
+            of.lookups += 1;
+            of.probes += probes;
+            of.most = of.most.max(probes);
+        }
+    }
+    probed
 }
 
 const NAMES: usize = 1024;

@@ -44,6 +44,16 @@ extern "C" {
         out: *mut u64,
     ) -> u64;
 
+    /// `out`, set at every call: entries probed, 0 where no search was made.
+    pub fn dialmoth_probes(
+        image: *const u8,
+        image_length: usize,
+        frame: u64,
+        name: *const u8,
+        name_length: usize,
+        out: *mut u64,
+    ) -> u64;
+
     pub fn dialmoth_create(
         image: *mut u8,
         image_length: usize,

@@ -130,6 +130,16 @@ impl PartialEq for Element {
 
 impl Eq for Element {}
 
+/// What the search of a lookup reads.
+#[derive(Clone, Copy, Debug, PartialEq, Eq)]
+pub struct Probes {
+    /// Entries probed; one that is probed twice counts twice.
+    pub count: u64,
+    /// The lookup's. Only [`Refusal::NO_CHUNK`] comes with a count above 0; with any other no
+    /// search was made.
+    pub refusal: Option<Refusal>,
+}
+
 /// How far an append went.
 #[derive(Clone, Copy, Debug, PartialEq, Eq)]
 pub struct Stores {
@@ -208,6 +218,17 @@ pub fn element(image: &[u8], frame: u64, name: &[u8], k: u64) -> Result<Element,
         4 => Element::Double(f64::from_bits(bits)),
         _ => unreachable!("an element has one of four kinds"),
     })
+}
+
+/// How many entries of the index the search of [`lookup`], [`chunk`] and [`element`] probes: at most
+/// one more than the number of entries has binary digits.
+pub fn probes(image: &[u8], frame: u64, name: &[u8]) -> Probes {
+    let mut count = 0;
+    let number = unsafe {
+        let (image, name) = ((image.as_ptr(), image.len()), (name.as_ptr(), name.len()));
+        ffi::dialmoth_probes(image.0, image.1, frame, name.0, name.1, &mut count)
+    };
+    Probes { count, refusal: (number != 0).then_some(Refusal(number)) }
 }
 
 /// Makes a fresh image of version 2.1; 0 slots stand for 64, 0 segments for 16. Every append clears

@@ -57,7 +57,7 @@ refusals! {
     27 NAME_TWICE "two rows of the sheet have one name"
     28 NAMES_FULL "names would pass 1,024"
     29 NO_ROOM "the append would pass the image's end"
-    // Lookup, chunk and element, in this order; then n-th name and entry.
+    // Lookup, chunk, element and probes, in this order; then n-th name and entry.
     40 NO_FRAME "frame not below the number of frames"
     41 NO_NAME "name not listed"
     42 NO_CHUNK "no such chunk in the frame"

@@ -1,7 +1,8 @@
 // The C interface. A slice is a pointer and its length, an array of fixed length a pointer. Each call answers its number,
-// 0 for none; its values go to out, which a refusal leaves as it was. Only append sets its out at every call.
+// 0 for none; its values go to out, which a refusal leaves as it was. Only probes and append set theirs at every call.
 use gsd_append::append;
 use gsd_create::create;
+use gsd_out::listed_number;
 use gsd_out::put_counts;
 use gsd_out::put_element;
 use gsd_out::put_entry;
@@ -12,6 +13,7 @@ use gsd_read::entry;
 use gsd_read::lookup;
 use gsd_read::name;
 use gsd_read::open;
+use gsd_read::search;
 ghost use mathlib.Core.Path.{_≡_};
 ghost use Rattle.gsd_format.specs.Opening.{opening};
 ghost use Rattle.gsd_format.specs.Lookup.{nthEntry, nthName, lookup, chunkPlace};
@@ -20,7 +22,7 @@ ghost use Rattle.gsd_format.specs.Create.{createNumber, created};
 ghost use Rattle.gsd_format.specs.Answers.{openingNumber, listedNumber, placeNumber, elementNumber};
 ghost use Rattle.gsd_stores.specs.Append.{appendTest, appended};
 ghost use Rattle.gsd_out.specs.Out.{openingOut, listedOut, placeOut, elementOut};
-ghost use Rattle.dialmoth.specs.Out.{appendOut};
+ghost use Rattle.dialmoth.specs.Out.{probesOut, appendOut};
 
 // Frames, names, entries.
 #[no_mangle]
@@ -80,6 +82,18 @@ pub extern "C" fn dialmoth_element(
     ensures out { λ _. ⌜ now (out .exit) ≡ elementOut (element (now (image .entry)) frame (now (name .entry)) k) (now (out .entry)) ⌝ }
 {
     put_element(element(image, frame, name, k), out)
+}
+
+// Entries probed, 0 where the lookup is refused before its search.
+#[no_mangle]
+pub extern "C" fn dialmoth_probes(image: &[u8], frame: u64, name: &[u8], out: &mut [u64; 1]) -> u64
+    ensures number { λ r. ⌜ r ≡ listedNumber (lookup (now (image .entry)) frame (now (name .entry))) ⌝ }
+    ensures out { λ _. ⌜ now (out .exit) ≡ probesOut (now (image .entry)) frame (now (name .entry)) ⌝ }
+{
+    let s = search(image, frame, name);
+    let answer = s.answer;
+    *out = [s.probes];
+    listed_number(answer)
 }
 
 // A refusal changes no byte.

@@ -6,6 +6,7 @@ use dialmoth::dialmoth_entry;
 use dialmoth::dialmoth_lookup;
 use dialmoth::dialmoth_name;
 use dialmoth::dialmoth_open;
+use dialmoth::dialmoth_probes;
 use gsd_lines::Numbers;
 use gsd_lines::part;
 use gsd_lines::words;
@@ -16,6 +17,7 @@ pub fn ask(
     n: Numbers,
     table: &[u8],
     image: &[u8],
+    one: &mut [u64; 1],
     two: &mut [u64; 2],
     three: &mut [u64; 3],
     seven: &mut [u64; 7],
@@ -27,6 +29,7 @@ pub fn ask(
         words::ELEMENT => dialmoth_element(image, n.c, part(table, n.d), n.e, two),
         words::ENTRY => dialmoth_entry(image, n.e, seven),
         words::LOOKUP => dialmoth_lookup(image, n.d, part(table, n.e), seven),
+        words::PROBES => dialmoth_probes(image, n.d, part(table, n.e), one),
         _ => 0,
     }
 }

@@ -22,6 +22,7 @@ fn number_of(
     kept: &[u8; 8192],
     sheet: &[u8],
     len: u64,
+    one: &mut [u64; 1],
     two: &mut [u64; 2],
     three: &mut [u64; 3],
     seven: &mut [u64; 7],
@@ -33,7 +34,16 @@ fn number_of(
     if k < words::NAME {
         return call(k, line.numbers, table, image, len, sheet, two);
     }
-    ask(k, line.numbers, table, part(image, len), two, three, seven)
+    ask(
+        k,
+        line.numbers,
+        table,
+        part(image, len),
+        one,
+        two,
+        three,
+        seven,
+    )
 }
 
 fn ask_line(
@@ -45,6 +55,8 @@ fn ask_line(
     s: State,
     path: &[u8],
 ) -> State {
+    // More than a search ever probes: a count that is not set shows.
+    let mut one = [99u64; 1];
     let mut two = [1u64; 2];
     let mut three = [0u64; 3];
     let mut seven = [0u64; 7];
@@ -56,11 +68,12 @@ fn ask_line(
         kept,
         sheet,
         s.len,
+        &mut one,
         &mut two,
         &mut three,
         &mut seven,
     );
-    let end = tally::answer(line.word, number, &two, &three, &seven, &mut text);
+    let end = tally::answer(line.word, number, &one, &two, &three, &seven, &mut text);
     tally::compared(s, path, &text, end, part(table, line.answer))
 }
 

@@ -6,12 +6,15 @@ use native.Mathlib.Nat.{zero-add, suc-add}
 use native.Mathlib.Decide.{ℕ-discrete, decLt}
 use native.Mathlib.Omega.{arith}
 use lib.ListN.{length, getD, length-append}
+use lib.Seq.{ext-getD}
+use lib.Dec.{ltb}
 use borrow.Author.Tests.{ne-eqb}
 use Rattle.gsd_format.specs.declared.Entry.{Entry}
 use Rattle.gsd_format.specs.Bytes.{le}
 use Rattle.gsd_format.specs.Header.{layoutOf}
-use Rattle.gsd_format.specs.Entries.{entryAt, entriesAt, entriesOf, key, framesFrom}
+use Rattle.gsd_format.specs.Entries.{entryAt, entriesAt, slotsAt, entriesOf, keyOf, key, framesFrom}
 use Rattle.gsd_format.specs.Lookup.{none}
+use Rattle.gsd_format.proofs.Refusals.{same-test}
 use Rattle.gsd_format.proofs.Bytes.{Same, Octets, same-from, le-same, le-bound}
 
 -- One entry
@@ -195,10 +198,33 @@ entries-grown x a n es new each real f newEach newReal c = record {
 pub entries-fit : (x : List ℕ) (at n : ℕ) → Octets x → (i : ℕ) → i < length (entriesAt x at n) → Fits (getD (entriesAt x at n) i none)
 entries-fit x at n h i l = rw (← entries-is n x at .each i l) (entry-fits x (at + 32 * i) h)
 
+-- slots, whatever they hold
+pub slots-length : (n : ℕ) (x : List ℕ) (at : ℕ) → length (slotsAt x at n) ≡ n
+unfolding slotsAt
+slots-length zero x at = refl
+slots-length (suc n) x at = ap suc (slots-length n x (at + 32))
+
+pub slots-each : (n : ℕ) (x : List ℕ) (at i : ℕ) → i < n → getD (slotsAt x at n) i none ≡ entryAt x (at + 32 * i)
+unfolding slotsAt
+slots-each zero x at i l = absurd (omega arith)
+slots-each (suc n) x at zero l = ap (entryAt x) (let q : at ≡ at + 32 * 0 = omega arith in q)
+slots-each (suc n) x at (suc i) l =
+    slots-each n x (at + 32) i (omega arith) ∙ ap (entryAt x) (let q : at + 32 + 32 * i ≡ at + 32 * suc i = omega arith in q)
+
+-- those of the listed entries hold these
+pub slots-listed : (x : List ℕ) (at n : ℕ) (es : List Entry) → IsEntries x at n es → slotsAt x at (length es) ≡ es
+slots-listed x at n es h =
+    ext-getD none (slotsAt x at (length es)) es (slots-length (length es) x at) (λ i l.
+    let u : i < length es = omega (arith, slots-length (length es) x at) in
+    slots-each (length es) x at i u ∙ h .each i u)
+
 -- the list of an image
 pub image-entries : (x : List ℕ) → IsEntries x (layoutOf x .index) (layoutOf x .slots) (entriesOf x)
 unfolding entriesOf
 image-entries x = entries-is (layoutOf x .slots) x (layoutOf x .index)
+
+pub image-slots : (x : List ℕ) → slotsAt x (layoutOf x .index) (length (entriesOf x)) ≡ entriesOf x
+image-slots x = slots-listed x (layoutOf x .index) (layoutOf x .slots) (entriesOf x) (image-entries x)
 
 pub entries-image : (x : List ℕ) (es : List Entry) → IsEntries x (layoutOf x .index) (layoutOf x .slots) es → entriesOf x ≡ es
 unfolding entriesOf
@@ -239,6 +265,14 @@ frames-grown top bottom es [] h = absurd (omega arith)
 frames-grown top bottom es (e ∷ more) h = frames-append top es (e ∷ more)
 
 -- Order
+
+-- keys go by the frame first, and in one frame by the id
+module _ (frame id frame′ id′ : ℕ) where
+  pub lower-frame : (frame ≡ frame′ → ⊥) → id < 65536 → id′ < 65536 → ltb frame frame′ ≡ ltb (keyOf frame id) (keyOf frame′ id′)
+  lower-frame n l l′ = same-test frame frame′ (keyOf frame id) (keyOf frame′ id′) (λ h. omega arith) (λ h. omega arith)
+
+  pub lower-id : frame ≡ frame′ → ltb id id′ ≡ ltb (keyOf frame id) (keyOf frame′ id′)
+  lower-id e = same-test id id′ (keyOf frame id) (keyOf frame′ id′) (λ h. omega arith) (λ h. omega arith)
 
 -- what the order's tests say from entry to entry: keys rise, from at least `least`; a frame is at most one above the frame before it, the first at most top
 abbrev pub Ordered : ℕ → ℕ → List Entry → Type 0

@@ -10,8 +10,10 @@ pub mod Entries
 pub mod Walk
 pub mod Verdict
 pub mod Lookup
+pub mod Search
 pub mod Listing
 pub mod Create
 pub mod Fresh
 pub mod Elements
 pub mod Calls
+pub mod Probes

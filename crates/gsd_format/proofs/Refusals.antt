@@ -57,6 +57,17 @@ decides t n b h = rw (met t (suc n) h) (stays (suc n) b (λ z. omega (arith, z))
 pub goes-on : (t : Bool) (n b : ℕ) → t ≡ false → (t ⇒ n) ▹ b ≡ b
 goes-on t n b h = first-of (t ⇒ n) b (passed t n h)
 
+-- a chain gives no number above k where none of its tests does
+pub first-most : (k a b : ℕ) → a ≤ k → b ≤ k → (a ▹ b) ≤ k
+unfolding _▹_
+first-most k zero b h g = g
+first-most k (suc a) b h g = h
+
+pub test-most : (k : ℕ) (t : Bool) (n : ℕ) → n ≤ k → (t ⇒ n) ≤ k
+unfolding _⇒_
+test-most k true n h = h
+test-most k false n h = omega arith
+
 pub neither : (a b : Bool) → (a || b) ≡ false → (a ≡ false) × (b ≡ false)
 neither true b h = absurd (true≢false h)
 neither false b h = (refl, h)

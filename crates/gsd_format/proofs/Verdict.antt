@@ -1,7 +1,7 @@
 -- Laws of opening: the verdict is 0 exactly when each test's fact holds, and what the tests depend on.
 use Prim.Native.Nat.{ℕ, zero, suc, _+_, _*_, _^_, _≤_, _<_}
 use mathlib.Core.Path.{_≡_, refl, sym, _∙_}
-use mathlib.Core.Bool.{true}
+use mathlib.Core.Bool.{Bool, true}
 use mathlib.Core.Logic.{_↔_}
 use mathlib.Core.List.{List, [], _∷_}
 use native.Mathlib.Omega.{arith}
@@ -12,6 +12,7 @@ use Rattle.gsd_format.specs.declared.Entry.{Entry}
 use Rattle.gsd_format.specs.declared.Layout.{Layout}
 use Rattle.gsd_format.specs.declared.Opening.{Opening}
 use Rattle.gsd_format.specs.Bytes.{le, zeroIn, Apart}
+use Rattle.gsd_format.specs.Refusals.{_⇒_, _▹_}
 use Rattle.gsd_format.specs.Types.{known, chunkSize}
 use Rattle.gsd_format.specs.Header.{magic, supported, headerSize, leastLength, greatestLength, versionOf, layoutOf}
 use Rattle.gsd_format.specs.Names.{namesOf}
@@ -19,7 +20,7 @@ use Rattle.gsd_format.specs.Entries.{entriesOf, key}
 use Rattle.gsd_format.specs.Opening.{headerTest, blocksTest, Blocks, namesTest, entryTest, entriesTest, verdict, countsOf, opening}
 use Rattle.gsd_format.specs.Lookup.{none}
 use Rattle.gsd_format.proofs.Refusals.{both, none-of, unmet, passed, neither, neither-of, both-true, both-of, not-of}
-use Rattle.gsd_format.proofs.Refusals.{not-less, less-no}
+use Rattle.gsd_format.proofs.Refusals.{not-less, less-no, first-most, test-most}
 use Rattle.gsd_format.proofs.Bytes.{Same, same-from, le-same, same-eq, eq-same, zeroIn-same, meets-apart, apart-meets}
 use Rattle.gsd_format.proofs.Entries.{Ordered, ShortIds}
 
@@ -194,6 +195,27 @@ verdict-zero x = (to, from)
       o .names,
       entries-zero (entriesOf x) (layoutOf x) (length (namesOf x)) 0 0 .1 (o .sound, o .ordered),
     )
+
+-- no number of opening is above 17
+then : (t : Bool) (n b : ℕ) → n ≤ 17 → b ≤ 17 → ((t ⇒ n) ▹ b) ≤ 17
+then t n b h g = first-most 17 (t ⇒ n) b (test-most 17 t n h) g
+
+entries-most : (es : List Entry) (l : Layout) (names least top : ℕ) → entriesTest l names least top es ≤ 17
+unfolding entriesTest entryTest
+entries-most [] l names least top = omega arith
+entries-most (e ∷ es) l names least top = first-most 17 _ _
+    (then _ 12 _ (omega arith) (then _ 13 _ (omega arith) (then _ 14 _ (omega arith) (then _ 15 _ (omega arith)
+    (then _ 16 _ (omega arith) (test-most 17 _ 17 (omega arith)))))))
+    (entries-most es l names (key e + 1) (e .frame + 1))
+
+pub verdict-most : (x : List ℕ) → verdict x ≤ 17
+unfolding verdict headerTest blocksTest namesTest
+verdict-most x =
+    first-most 17 _ _
+    (then _ 1 _ (omega arith) (then _ 2 _ (omega arith) (then _ 3 _ (omega arith) (then _ 4 _ (omega arith) (test-most 17 _ 5 (omega arith))))))
+    (first-most 17 _ _ (then _ 6 _ (omega arith) (then _ 7 _ (omega arith) (test-most 17 _ 8 (omega arith))))
+    (first-most 17 _ _ (then _ 9 _ (omega arith) (then _ 10 _ (omega arith) (test-most 17 _ 11 (omega arith))))
+    (entries-most (entriesOf x) (layoutOf x) (length (namesOf x)) 0 0)))
 
 -- the answer
 pub opening-open : (x : List ℕ) → verdict x ≡ 0 → opening x ≡ Opening.Open (countsOf x)

@@ -13,6 +13,7 @@ use Rattle.gsd_format.specs.Names.{nameParts, namesOf, indexOf}
 use Rattle.gsd_format.specs.Entries.{entriesOf, framesOf}
 use Rattle.gsd_format.specs.Opening.{verdict}
 use Rattle.gsd_format.specs.Lookup.{none, nowhere, chunkPart}
+use Rattle.gsd_format.specs.Search.{probed}
 use Rattle.gsd_format.specs.Elements.{elementOf}
 use Rattle.gsd_format.specs.Answers.{entryValues, partValues, elementValues}
 
@@ -63,6 +64,17 @@ foundEntry img frame name = entryFor frame (indexOf name (namesOf img)) (entries
 
 abbrev pub lookupValues : List ℕ → ℕ → List ℕ → List ℕ
 lookupValues img frame name = unless (lookupTest img frame name) (entryValues (foundEntry img frame name))
+
+-- what keeps a lookup from its search: the image's number, 40, 41
+unfoldable pub searchTest : List ℕ → ℕ → List ℕ → ℕ
+searchTest img frame name =
+    verdict img
+    ▹ (not (ltb frame (framesOf (entriesOf img))) ⇒ 40)
+    ▹ (not (ltb (indexOf name (namesOf img)) (length (namesOf img))) ⇒ 41)
+
+-- the numbers of the entries that a lookup's search probes; without a search none
+abbrev pub probesOf : List ℕ → ℕ → List ℕ → List ℕ
+probesOf img frame name = unless (searchTest img frame name) (probed frame (indexOf name (namesOf img)) (entriesOf img))
 
 -- where a chunk lies
 abbrev pub chunkValues : List ℕ → ℕ → List ℕ → List ℕ

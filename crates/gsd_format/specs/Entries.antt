@@ -45,6 +45,11 @@ unfoldable pub entriesAt : List ℕ → ℕ → ℕ → List Entry
 entriesAt img at zero = []
 entriesAt img at (suc n) = elim (eqb (le 8 img (at + locationPlace)) 0) [ true ↦ [] | false ↦ entryAt img at ∷ entriesAt img (at + slotSize) n ]
 
+-- the n slots from at as entries, whatever they hold
+unfoldable pub slotsAt : List ℕ → ℕ → ℕ → List Entry
+slotsAt img at zero = []
+slotsAt img at (suc n) = entryAt img at ∷ slotsAt img (at + slotSize) n
+
 unfoldable pub entriesOf : List ℕ → List Entry
 entriesOf img = entriesAt img (layoutOf img .index) (layoutOf img .slots)
 
@@ -53,8 +58,11 @@ abbrev pub idRange : ℕ
 idRange = 65536
 
 -- (frame, id) in its order, as one number
+abbrev pub keyOf : ℕ → ℕ → ℕ
+keyOf frame id = idRange * frame + id
+
 abbrev pub key : Entry → ℕ
-key e = idRange * e .frame + e .id
+key e = keyOf (e .frame) (e .id)
 
 -- the last entry's frame plus 1, or top with no entries
 unfoldable pub framesFrom : ℕ → List Entry → ℕ

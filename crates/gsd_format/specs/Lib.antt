@@ -9,8 +9,10 @@ pub mod Names
 pub mod Entries
 pub mod Opening
 pub mod Lookup
+pub mod Search
 pub mod Elements
 pub mod Create
 pub mod Listing
 pub mod Answers
 pub mod Calls
+pub mod Probes

@@ -48,6 +48,12 @@ pub enum Listed {
     Refused(u64),
 }
 
+// What the search answers: the lookup's answer, and how many entries it probed.
+pub struct Searched {
+    pub answer: Listed,
+    pub probes: u64,
+}
+
 // What the n-th name and the place of a chunk answer.
 pub enum Place {
     At(Part),

@@ -1,7 +1,7 @@
 // The words of a table. A line's form is its word with 0 for each number, ' for each text and = before an answer: a line
 // "lookup 0 'probe' = 41" has the form "lookup0'=".
 
-const FORMS: [u8; 368] = *b"\
+const FORMS: [u8; 384] = *b"\
 image0          \
 use0            \
 bytes0'         \
@@ -25,9 +25,11 @@ element0'0=     \
 open=           \
 entry0=         \
 lookup0'=       \
+probes0'=       \
 ";
 
-// Their places in this list: the words that make an image or a sheet, and those that ask for no value, two, three and seven.
+// Their places in this list: the words that make an image or a sheet, and those that ask for no value, two, three, seven
+// and one.
 pub const IMAGE: usize = 0;
 
 pub const USE: usize = 1;
@@ -74,7 +76,9 @@ pub const ENTRY: usize = 21;
 
 pub const LOOKUP: usize = 22;
 
-pub const UNKNOWN: usize = 23;
+pub const PROBES: usize = 23;
+
+pub const UNKNOWN: usize = 24;
 
 // The place of a form in the list.
 pub fn known(form: &[u8; 16]) -> usize {

@@ -50,6 +50,16 @@ pub fn put_entry(answer: Listed, out: &mut [u64; 7]) -> u64
     }
 }
 
+// The number alone.
+pub fn listed_number(answer: Listed) -> u64
+    ensures { λ r. ⌜ r ≡ listedNumber answer ⌝ }
+{
+    match answer {
+        Listed::Found(_) => 0,
+        Listed::Refused(n) => n,
+    }
+}
+
 // Start and length.
 pub fn put_part(answer: Place, out: &mut [u64; 2]) -> u64
     requires { ⌜ (answer ≡ Place.Refused 0 → ⊥) ⌝ }

@@ -1,14 +1,10 @@
--- Laws of what is found: the search for an entry slot by slot, where names and chunks lie, and the element of an entry that is found.
+-- Laws of what is found: where names and chunks lie, and the element of an entry that is found.
 use Prim.Native.Nat.{ℕ, zero, suc, _+_, _*_, _-_, _≤_, _<_}
 use mathlib.Core.Path.{_≡_, refl, sym, _∙_, ap}
-use mathlib.Core.Bool.{true, false, _&&_}
-use mathlib.Core.List.{List, [], _∷_}
-use native.Mathlib.Numerals.{add-one}
+use mathlib.Core.List.{List, []}
 use native.Mathlib.Decide.{decLt}
 use native.Mathlib.Omega.{arith}
-use lib.ListN.{length, drop, drop-of-length-le}
-use lib.Seq.{drop-cons}
-use lib.Dec.{eqb}
+use lib.ListN.{length}
 use Rattle.gsd_format.specs.declared.Entry.{Entry}
 use Rattle.gsd_format.specs.declared.Listed.{Listed}
 use Rattle.gsd_format.specs.declared.Part.{Part}
@@ -18,46 +14,19 @@ use Rattle.gsd_format.specs.Bytes.{part}
 use Rattle.gsd_format.specs.Header.{layoutOf}
 use Rattle.gsd_format.specs.Types.{chunkSize}
 use Rattle.gsd_format.specs.Names.{nameParts, namesOf}
-use Rattle.gsd_format.specs.Entries.{entryAt, entriesOf}
+use Rattle.gsd_format.specs.Entries.{entriesOf}
 use Rattle.gsd_format.specs.Opening.{verdict}
-use Rattle.gsd_format.specs.Lookup.{none, nowhere, nthName, findEntry, lookup, placed, chunkPlace, bytesAt}
+use Rattle.gsd_format.specs.Lookup.{nowhere, nthName, lookup, placed, chunkPlace, bytesAt}
 use Rattle.gsd_format.specs.Elements.{elementIn, element}
 use Rattle.gsd_format.proofs.Lists.{each-at}
 use Rattle.gsd_format.proofs.Types.{known-sized}
 use Rattle.gsd_format.proofs.Names.{Lies, parts-within}
 use Rattle.gsd_format.proofs.Verdict.{Sound, verdict-zero}
-use Rattle.gsd_format.proofs.Lookup.{find-end, find-sound, look-found, opened-lookup, opened-name, opened-no-name, refused-name, found-opens}
+use Rattle.gsd_format.proofs.Lookup.{find-sound, look-found, opened-lookup, opened-name, opened-no-name, refused-name, found-opens}
 use Rattle.gsd_open.specs.Index.{Capped}
-use Rattle.gsd_open.proofs.Surveys.{layout-length, slot-entry}
+use Rattle.gsd_open.proofs.Surveys.{layout-length}
 use Rattle.gsd_elements.specs.Held.{Held}
 use Rattle.gsd_read.specs.Lookups.{Inside, LiesAt}
-
--- The search for an entry
-
-found-by : (frame id : ℕ) (e : Entry) (es : List Entry) → (eqb (e .frame) frame && eqb (e .id) id) ≡ true → findEntry frame id (e ∷ es) ≡ Listed.Found e
-unfolding findEntry
-found-by frame id e es h = rw (h, findEntry)
-
-passed-by : (frame id : ℕ) (e : Entry) (es : List Entry) → (eqb (e .frame) frame && eqb (e .id) id) ≡ false →
-    findEntry frame id (e ∷ es) ≡ findEntry frame id es
-unfolding findEntry
-passed-by frame id e es h = rw (h, findEntry)
-
--- the i-th entry is e, read at place at
-module _ (img : List ℕ) (good : verdict img ≡ 0) (i : ℕ) (few : i < length (entriesOf img)) (at : ℕ) (there : at ≡ layoutOf img .index + 32 * i) where
-  here-on : (e : Entry) → e ≡ entryAt img at → drop i (entriesOf img) ≡ e ∷ drop (i + 1) (entriesOf img)
-  here-on e q = rw (add-one i, q, slot-entry img good i few at there) (drop-cons (entriesOf img) i none few)
-
-  pub found-here : (frame id : ℕ) (e : Entry) → e ≡ entryAt img at → (eqb (e .frame) frame && eqb (e .id) id) ≡ true →
-      findEntry frame id (drop i (entriesOf img)) ≡ Listed.Found e
-  found-here frame id e q h = rw (here-on e q) (found-by frame id e (drop (i + 1) (entriesOf img)) h)
-
-  pub found-on : (frame id : ℕ) (e : Entry) → e ≡ entryAt img at → (eqb (e .frame) frame && eqb (e .id) id) ≡ false →
-      findEntry frame id (drop i (entriesOf img)) ≡ findEntry frame id (drop (i + 1) (entriesOf img))
-  found-on frame id e q h = ap (findEntry frame id) (here-on e q) ∙ passed-by frame id e (drop (i + 1) (entriesOf img)) h
-
-pub found-none : (frame id : ℕ) (es : List Entry) (i : ℕ) → length es ≤ i → findEntry frame id (drop i es) ≡ Listed.Refused 42
-found-none frame id es i h = ap (findEntry frame id) (drop-of-length-le es h) ∙ find-end frame id
 
 -- Where names and chunks lie
 

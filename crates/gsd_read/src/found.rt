@@ -3,32 +3,31 @@ use gsd_bytes::SLOT_SIZE;
 use gsd_elements::element_in;
 use gsd_format::Counts;
 use gsd_format::Element;
-use gsd_format::Entry;
 use gsd_format::Listed;
 use gsd_format::Opening;
 use gsd_format::Part;
 use gsd_format::Place;
+use gsd_format::Searched;
 use gsd_names::PLACES;
 use gsd_names::name_id;
 use gsd_names::name_part;
 use gsd_open::chunk_bytes;
 use gsd_open::entry_at;
 use gsd_open::survey_of;
+use gsd_search::Query;
+use gsd_search::find_entry;
 ghost use mathlib.Core.Path.{_≡_};
-ghost use mathlib.Core.Bool.{_&&_};
 ghost use Prim.Native.Nat.{_+_, _-_, _≤_};
 ghost use lib.ListN.{length};
-ghost use lib.Dec.{eqb};
 ghost use Rattle.gsd_format.specs.Bytes.{part};
-ghost use Rattle.gsd_format.specs.Header.{layoutOf};
-ghost use Rattle.gsd_format.specs.Entries.{entriesOf};
+ghost use Rattle.gsd_format.specs.declared.Listed.{Listed};
 ghost use Rattle.gsd_format.specs.Opening.{verdict, opening};
-ghost use Rattle.gsd_format.specs.Lookup.{nthEntry, nthName, findEntry, lookup, chunkPlace, bytesAt};
+ghost use Rattle.gsd_format.specs.Lookup.{nthEntry, nthName, lookup, chunkPlace, bytesAt};
 ghost use Rattle.gsd_format.specs.Elements.{element};
 ghost use Rattle.gsd_format.specs.Answers.{openingNumber, openingValues, listedNumber, listedValues, placeNumber, placeValues};
 ghost use Rattle.gsd_format.specs.Answers.{elementNumber, elementValues};
 ghost use Rattle.gsd_format.specs.Calls.{openValues, nthEntryTest, nthEntryValues, nthNameTest, nthNameValues};
-ghost use Rattle.gsd_format.specs.Calls.{lookupTest, lookupValues, chunkValues, elementTest, nthElementValues};
+ghost use Rattle.gsd_format.specs.Calls.{lookupTest, lookupValues, probesOf, chunkValues, elementTest, nthElementValues};
 ghost use Rattle.gsd_read.specs.Lookups.{Inside, LiesAt};
 
 // How many frames, names and entries an image has, or why it is refused.
@@ -114,55 +113,53 @@ pub fn name_bytes(image: &[u8], n: u64) -> &[u8]
     part_at(image, name(image, n))
 }
 
-fn matches(e: Entry, frame: u64, id: u64) -> bool
-    ensures { λ r. ⌜ r ≡ (eqb (e .frame) frame && eqb (e .id) id) ⌝ }
+// A lookup that ends before its search probes nothing.
+fn unsought(number: u64) -> Searched
+    ensures answer { λ r. ⌜ r .answer ≡ Listed.Refused number ⌝ }
+    ensures probes { λ r. ⌜ r .probes ≡ 0 ⌝ }
 {
-    if e.frame != frame {
-        return false;
+    Searched {
+        answer: Listed::Refused(number),
+        probes: 0,
     }
-    e.id as u64 == id
 }
 
-// The entry of a frame and an id among the listed entries, count of them from index on.
-fn find_entry(image: &[u8], index: u64, count: u64, frame: u64, id: u64) -> Listed
-    requires opens { ⌜ verdict (now image) ≡ 0 ⌝ }
-    requires index { ⌜ index ≡ layoutOf (now image) .index ⌝ }
-    requires counted { ⌜ count ≡ length (entriesOf (now image)) ⌝ }
-    ensures { λ r. ⌜ r ≡ findEntry frame id (entriesOf (now (image .entry))) ⌝ }
+// The lookup, and how many entries its search probes. Any bytes may be asked as a name.
+pub fn search(image: &[u8], frame: u64, name: &[u8]) -> Searched
+    ensures answer { λ r. ⌜ r .answer ≡ lookup (now (image .entry)) frame (now (name .entry)) ⌝ }
+    ensures probes { λ r. ⌜ r .probes ≡ length (probesOf (now (image .entry)) frame (now (name .entry))) ⌝ }
 {
-    let mut at = index as usize;
-    let mut i = 0;
-    while i < count {
-        let e = entry_at(image, at);
-        if matches(e, frame, id) {
-            return Listed::Found(e);
-        }
-        at += SLOT_SIZE as usize;
-        i += 1;
+    let mut starts = [0u32; PLACES];
+    let s = survey_of(image, &mut starts);
+    if s.number != 0 {
+        return unsought(s.number);
     }
-    Listed::Refused(42)
+    if s.frames <= frame {
+        return unsought(40);
+    }
+    let count = s.names.count;
+    let id = name_id(image, &starts, count, name);
+    if count <= id {
+        return unsought(41);
+    }
+    find_entry(
+        image,
+        Query {
+            index: s.layout.index,
+            count: s.entries,
+            frame,
+            id: id as u64,
+        },
+    )
 }
 
-// The entry of a frame and a name. Any bytes may be asked as a name.
+// The entry of a frame and a name.
 pub fn lookup(image: &[u8], frame: u64, name: &[u8]) -> Listed
     ensures { λ r. ⌜ r ≡ lookup (now (image .entry)) frame (now (name .entry)) ⌝ }
     ensures number { λ r. ⌜ listedNumber r ≡ lookupTest (now (image .entry)) frame (now (name .entry)) ⌝ }
     ensures values { λ r. ⌜ listedValues r ≡ lookupValues (now (image .entry)) frame (now (name .entry)) ⌝ }
 {
-    let mut starts = [0u32; PLACES];
-    let s = survey_of(image, &mut starts);
-    if s.number != 0 {
-        return Listed::Refused(s.number);
-    }
-    if s.frames <= frame {
-        return Listed::Refused(40);
-    }
-    let count = s.names.count;
-    let id = name_id(image, &starts, count, name);
-    if count <= id {
-        return Listed::Refused(41);
-    }
-    find_entry(image, s.layout.index, s.entries, frame, id as u64)
+    search(image, frame, name).answer
 }
 
 // Where the chunk of a frame and a name lies, or the lookup's number.

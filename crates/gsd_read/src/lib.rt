@@ -1,5 +1,5 @@
-// Reading an image: what opening, the names, the entries, the lookup, chunks and elements answer. Every call opens the
-// image.
+// Reading an image: what opening, the names, the entries, the lookup and its probes, chunks and elements answer. Every call
+// opens the image.
 mod found;
 
 pub use found::chunk;
@@ -10,3 +10,4 @@ pub use found::lookup;
 pub use found::name;
 pub use found::name_bytes;
 pub use found::open;
+pub use found::search;

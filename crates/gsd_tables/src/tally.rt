@@ -143,8 +143,11 @@ fn say_values(text: &mut [u8; 8192], at: u64, values: &[u64]) -> u64 {
     end
 }
 
-// How many values are told: those of a call whose number is 0, and of every append.
+// How many values are told: those of a call whose number is 0; of probes and append at every number.
 fn told(k: usize, number: u64) -> usize {
+    if k == words::PROBES {
+        return 1;
+    }
     if k == words::APPEND {
         return 2;
     }
@@ -163,6 +166,7 @@ fn told(k: usize, number: u64) -> usize {
 pub fn answer(
     k: usize,
     number: u64,
+    one: &[u64; 1],
     two: &[u64; 2],
     three: &[u64; 3],
     seven: &[u64; 7],
@@ -170,6 +174,7 @@ pub fn answer(
 ) -> u64 {
     let at = say(text, 0, number);
     match told(k, number) {
+        1 => say_values(text, at, one),
         2 => say_values(text, at, two),
         3 => say_values(text, at, three),
         7 => say_values(text, at, seven),

@@ -10,6 +10,9 @@ use Rattle.gsd_format.specs.Names.{partsAt, nameParts, namesOf, flat, indexOf}
 use Rattle.gsd_format.specs.Entries.{entryAt, entriesAt, entriesOf, framesFrom, chunksEnd}
 use Rattle.gsd_format.specs.Opening.{headerTest, blocksTest, twins, namesTest, entryTest, entriesTest, verdict, countsOf, opening}
 use Rattle.gsd_format.specs.Lookup.{nthEntry, nthName, findEntry, lookupIn, lookup, placed, chunkPlace, bytesAt}
+use lib.Ieee.{size, span, climb}
+use Rattle.gsd_format.specs.Search.{halve, lastProbe, probed, searched}
+use Rattle.gsd_format.specs.Calls.{unless, searchTest}
 use Rattle.gsd_format.specs.Elements.{elementOf, elementIn, element}
 use Rattle.gsd_format.specs.Create.{orDefault, createTest, freshHeader, fresh, createNumber, created}
 use Rattle.gsd_format.specs.Listing.{digits, decimal, fields, entryLine, entryLines, countsLine, listing, printed}
@@ -21,9 +24,10 @@ use Rattle.gsd_stores.specs.Plan.{bodies, endFrom, newNames, newEntries, insert
 use Rattle.gsd_stores.specs.Steps.{clearIndex, clearNames, storeTexts, moved, moveNames, storeName, storeNames, moveIndex, entryBytes, indexBytes, storeEntries, stepsOf, storeList}
 use Rattle.gsd_stores.specs.Append.{imageTest, planTest, appendTest, storesFor, appendAnswer, appended}
 use Rattle.gsd_stores.specs.Runs.{afterRun, lastStoreMade, completed}
-use Rattle.gsd_worked.specs.Table.{tableRow, sheetA, sheetB, sheetOf, freshIn, createdIn, inVersion, stepCounts, shown, table, versions, passes}
+use Rattle.gsd_worked.specs.Table.{tableRow, sheetA, sheetB, sheetOf, freshIn, createdIn, inVersion, stepCounts, shown, table, versions}
+use Rattle.gsd_worked.specs.Table.{entriesFrom, search, probes, passes}
 
-pub worked : (passes table ≡ true) × (passes versions ≡ true)
+pub worked : (passes table ≡ true) × (passes versions ≡ true) × (passes probes ≡ true)
 unfolding le leBytes same zeroIn stored ascii _⇒_ _▹_ sizeOf lastType layoutOf partsAt nameParts namesOf flat indexOf entryAt
     entriesAt entriesOf framesFrom headerTest blocksTest twins namesTest entryTest entriesTest verdict countsOf
     opening nthEntry nthName findEntry lookupIn lookup placed chunkPlace bytesAt orDefault createTest freshHeader
@@ -33,5 +37,6 @@ unfolding le leBytes same zeroIn stored ascii _⇒_ _▹_ sizeOf lastType layout
     newNames newEntries inserted sorted doubled planOf clearIndex clearNames storeTexts endFrom moved moveNames
     storeName storeNames moveIndex entryBytes indexBytes storeEntries stepsOf storeList imageTest planTest appendTest
     storesFor appendAnswer appended afterRun lastStoreMade completed tableRow sheetA sheetB freshIn createdIn
-    stepCounts shown sheetOf inVersion elementOf elementIn element table versions passes
-worked = (refl, refl)
+    stepCounts shown sheetOf inVersion elementOf elementIn element halve lastProbe probed searched searchTest
+    unless size span climb entriesFrom search table versions probes passes
+worked = (refl, refl, refl)

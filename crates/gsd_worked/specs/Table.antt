@@ -1,7 +1,7 @@
 -- The worked cases that are proved: each a list of numbers computed by the definitions, and what it must be.
-use Prim.Native.Nat.{ℕ, _+_, _*_}
+use Prim.Native.Nat.{ℕ, zero, suc, _+_, _*_}
 use Prim.Native.String.{String}
-use mathlib.Core.List.{List, [], _∷_, _++_}
+use mathlib.Core.List.{List, [], _∷_, _++_, map}
 use mathlib.Core.Bool.{Bool, true, _&&_}
 use lib.ListN.{getD, length}
 use Rattle.gsd_format.specs.Bytes.{same, leBytes, zeros, stored}
@@ -10,7 +10,10 @@ use Rattle.gsd_format.specs.Header.{version20, versionPlace, versionOf, layoutO
 use Rattle.gsd_format.specs.Names.{namesOf}
 use Rattle.gsd_format.specs.Entries.{entriesOf}
 use Rattle.gsd_format.specs.Opening.{verdict}
+use Rattle.gsd_format.specs.declared.Entry.{Entry}
 use Rattle.gsd_format.specs.Lookup.{lookup, none}
+use Rattle.gsd_format.specs.Search.{binaryDigits, probed, searched}
+use Rattle.gsd_format.specs.Calls.{probesOf}
 use Rattle.gsd_format.specs.Elements.{element}
 use Rattle.gsd_format.specs.Create.{createNumber, created}
 use Rattle.gsd_format.specs.Listing.{printed}
@@ -151,6 +154,54 @@ versions =
       says = "sheets A and B on 2.0: the same stores, and the version stays";
       got = appended (appended old sheetA 23) sheetB 43;
       expected = inVersion version20 (appended (appended new sheetA 23) sheetB 43);
+    }
+    ∷ []
+
+-- n entries from this frame on, a frame each, with id 1: ids 0 and 2 have their places before and behind each
+unfoldable pub entriesFrom : ℕ → ℕ → List Entry
+entriesFrom frame zero = []
+entriesFrom frame (suc n) = record { frame = frame; n = 1; location = 256; m = 1; id = 1; kind = 1; flags = 0 } ∷ entriesFrom (frame + 1) n
+
+-- the search among n of them: its number, then the entries that it probes
+unfoldable pub search : ℕ → ℕ → ℕ → List ℕ
+search n frame id = listedNumber (searched frame id (entriesFrom 0 n)) ∷ probed frame id (entriesFrom 0 n)
+
+-- which entries are probed, in their order
+unfoldable pub probes : List Case
+probes =
+    let b : List ℕ = appended (appended (freshIn 1024) sheetA 23) sheetB 43 in
+    record { says = "after B: the first entry of three"; got = probesOf b 0 (ascii "probe"); expected = 1 ∷ 0 ∷ 0 ∷ [] }
+    ∷ record { says = "the last"; got = probesOf b 1 (ascii "heater"); expected = 1 ∷ 2 ∷ 2 ∷ [] }
+    ∷ record { says = "42: both entries next to its place"; got = probesOf b 0 (ascii "heater"); expected = 1 ∷ 0 ∷ 1 ∷ [] }
+    ∷ record { says = "40: none"; got = probesOf b 2 (ascii "probe"); expected = [] }
+    ∷ record { says = "41: none"; got = probesOf b 1 (ascii "fan"); expected = [] }
+    ∷ record { says = "the image's number: none"; got = probesOf (inVersion 0 b) 0 (ascii "probe"); expected = [] }
+    ∷ record { says = "no entry"; got = search 0 0 1; expected = 42 ∷ [] }
+    ∷ record { says = "one: found"; got = search 1 0 1; expected = 0 ∷ 0 ∷ 0 ∷ [] }
+    ∷ record { says = "before it"; got = search 1 0 0; expected = 42 ∷ 0 ∷ 0 ∷ [] }
+    ∷ record { says = "behind it"; got = search 1 0 2; expected = 42 ∷ 0 ∷ [] }
+    ∷ record { says = "two: the first"; got = search 2 0 1; expected = 0 ∷ 1 ∷ 0 ∷ 0 ∷ [] }
+    ∷ record { says = "the second"; got = search 2 1 1; expected = 0 ∷ 1 ∷ 0 ∷ 1 ∷ [] }
+    ∷ record { says = "between"; got = search 2 0 2; expected = 42 ∷ 1 ∷ 0 ∷ 1 ∷ [] }
+    ∷ record { says = "behind"; got = search 2 1 2; expected = 42 ∷ 1 ∷ [] }
+    ∷ record { says = "three: the middle one"; got = search 3 1 1; expected = 0 ∷ 1 ∷ 0 ∷ 1 ∷ [] }
+    ∷ record { says = "before"; got = search 3 0 0; expected = 42 ∷ 1 ∷ 0 ∷ 0 ∷ [] }
+    ∷ record { says = "four: the first"; got = search 4 0 1; expected = 0 ∷ 2 ∷ 1 ∷ 0 ∷ 0 ∷ [] }
+    ∷ record { says = "the last"; got = search 4 3 1; expected = 0 ∷ 2 ∷ 3 ∷ 3 ∷ [] }
+    ∷ record { says = "the second"; got = search 4 1 1; expected = 0 ∷ 2 ∷ 1 ∷ 0 ∷ 1 ∷ [] }
+    ∷ record { says = "behind"; got = search 4 3 2; expected = 42 ∷ 2 ∷ 3 ∷ [] }
+    ∷ record { says = "five: the first"; got = search 5 0 1; expected = 0 ∷ 2 ∷ 1 ∷ 0 ∷ 0 ∷ [] }
+    ∷ record { says = "the last"; got = search 5 4 1; expected = 0 ∷ 2 ∷ 4 ∷ 3 ∷ 4 ∷ [] }
+    ∷ record { says = "between"; got = search 5 3 0; expected = 42 ∷ 2 ∷ 4 ∷ 3 ∷ 3 ∷ [] }
+    ∷ record { says = "eight: before"; got = search 8 0 0; expected = 42 ∷ 4 ∷ 2 ∷ 1 ∷ 0 ∷ 0 ∷ [] }
+    ∷ record { says = "the last"; got = search 8 7 1; expected = 0 ∷ 4 ∷ 6 ∷ 7 ∷ 7 ∷ [] }
+    ∷ record { says = "behind"; got = search 8 7 2; expected = 42 ∷ 4 ∷ 6 ∷ 7 ∷ [] }
+    ∷ record { says = "nine: the fifth"; got = search 9 4 1; expected = 0 ∷ 4 ∷ 2 ∷ 3 ∷ 4 ∷ [] }
+    ∷ record { says = "between"; got = search 9 4 0; expected = 42 ∷ 4 ∷ 2 ∷ 3 ∷ 4 ∷ [] }
+    ∷ record {
+      says = "binary digits of 0, 1, 2, 3, 4, 7, 8, 40,000";
+      got = map binaryDigits (0 ∷ 1 ∷ 2 ∷ 3 ∷ 4 ∷ 7 ∷ 8 ∷ 40000 ∷ []);
+      expected = 0 ∷ 1 ∷ 2 ∷ 2 ∷ 3 ∷ 3 ∷ 4 ∷ 16 ∷ [];
     }
     ∷ []
 

@@ -42,6 +42,13 @@ pub trait Ask: Library {
         answer(|out| self.element(image, frame, name, k, out))
     }
 
+    /// The number, and how many entries were probed: that is answered at a refusal too.
+    fn probed(&self, image: &[u8], frame: u64, name: &[u8]) -> (u64, u64) {
+        let mut out = [0x5555];
+        let number = self.probes(image, frame, name, &mut out);
+        (number, out[0])
+    }
+
     /// A fresh image of `length` bytes, zero before, with empty texts.
     fn fresh(&self, length: usize, slots: u64, segments: u64) -> Answer<Vec<u8>> {
         let mut image = vec![0; length];

@@ -101,14 +101,85 @@ fn entries(l: &Versioned, length: usize, slots: &[Slot]) -> Vec<u8> {
     image
 }
 
-/// `count` different names of seven bytes and their zero, behind 2 slots.
+/// Different names of seven bytes.
+fn numbered(n: usize) -> Vec<u8> {
+    format!("n{n:06}").into_bytes()
+}
+
+/// `count` names of seven bytes and their zero, behind 2 slots.
 fn many_names(l: &Versioned, count: usize) -> Vec<u8> {
     let segments = (8 * count).div_ceil(64) + 1;
     let mut image = l.blank(320 + 64 * segments, 256, 2, 320, segments as u64);
-    let names: Vec<_> = (0..count).map(|n| format!("n{n:06}").into_bytes()).collect();
+    let names: Vec<_> = (0..count).map(numbered).collect();
     put_names(&mut image, 320, names.iter().map(Vec::as_slice));
     image
 }
+
+/// Frame and id.
+type Key = (u64, u16);
+
+/// An index of these entries, with free slots behind them, and the first of the names that
+/// [`numbered`] gives. The chunk of the n-th entry is one byte, the lowest of n.
+fn index(l: &Versioned, keys: &[Key], names: usize, free: usize) -> Vec<u8> {
+    let (slots, segments) = (keys.len() + free, (8 * names).div_ceil(64));
+    let list = 256 + 32 * slots;
+    let data = list + 64 * segments;
+    let mut image = l.blank(data + keys.len(), 256, slots as u64, list as u64, segments as u64);
+    let names: Vec<_> = (0..names).map(numbered).collect();
+    put_names(&mut image, list, names.iter().map(Vec::as_slice));
+    for (n, &(frame, id)) in keys.iter().enumerate() {
+        Slot::bytes(frame, id, (data + n) as u64, 1).put(&mut image, 256 + 32 * n);
+        image[data + n] = n as u8;
+    }
+    image
+}
+
+/// How many entries lie before the place of one sought, whether it is there, and the probes that it
+/// takes. All calls that look it up must answer as it is there or not.
+fn search(l: &Versioned, image: &[u8], keys: &[Key], key: Key) -> (usize, bool, u64) {
+    let place = keys.iter().filter(|&&listed| listed < key).count();
+    let found = keys.get(place) == Some(&key);
+    let (frame, id, name) = (key.0, u64::from(key.1), numbered(key.1.into()));
+    let entry = l.find(image, frame, &name).map(|entry| (entry[0], entry[4]));
+    assert_eq!(entry, found.then_some((frame, id)).ok_or(42));
+    let byte = place as u8;
+    assert_eq!(l.bytes(image, frame, &name), found.then_some(&[byte][..]).ok_or(42));
+    let element = l.nth_element(image, frame, &name, 0);
+    assert_eq!(element, found.then_some([1, byte.into()]).ok_or(42));
+    let (number, probes) = l.probed(image, frame, &name);
+    assert_eq!(number, if found { 0 } else { 42 });
+    (place, found, probes)
+}
+
+/// W-202's words of the list of entries probed, as far as its length shows them: it holds the found
+/// entry, or else those next to its place, and has at most one more than n has binary digits.
+fn promised(keys: &[Key], digits: u64, (place, found, probes): (usize, bool, u64)) {
+    let held = if found { 1 } else { u64::from(place > 0) + u64::from(place < keys.len()) };
+    let entries = keys.len();
+    assert!((held..=digits + 1).contains(&probes), "place {place} of {entries}: {probes} probes");
+}
+
+/// The places probed in lists of 1 to 5 entries, where none lies before the place sought, one, and
+/// so on up to all.
+const PROBED_PLACES: [&[&[usize]]; 5] = [
+    &[&[0, 0], &[0]],
+    &[&[1, 0, 0], &[1, 0, 1], &[1]],
+    &[&[1, 0, 0], &[1, 0, 1], &[1, 2, 2], &[1, 2]],
+    &[&[2, 1, 0, 0], &[2, 1, 0, 1], &[2, 1, 2], &[2, 3, 3], &[2, 3]],
+    &[&[2, 1, 0, 0], &[2, 1, 0, 1], &[2, 1, 2], &[2, 4, 3, 3], &[2, 4, 3, 4], &[2, 4]],
+];
+
+/// How many are probed in longer ones. 2^k - 1 entries halve evenly: k probes for each place, and
+/// one for what stands there, but nothing does behind the last. Of 2^k the lower part is a power
+/// again, so that places 0 and 1 take one probe more. Of 2^k + 1 both parts are powers.
+const PROBE_COUNTS: [&[u64]; 6] = [
+    &[4, 4, 4, 4, 4, 4, 4, 3],
+    &[5, 5, 4, 4, 4, 4, 4, 4, 3],
+    &[5, 5, 4, 4, 4, 5, 5, 4, 4, 3],
+    &[5, 5, 5, 5, 5, 5, 5, 5, 5, 5, 5, 5, 5, 5, 5, 4],
+    &[6, 6, 5, 5, 5, 5, 5, 5, 5, 5, 5, 5, 5, 5, 5, 5, 4],
+    &[6, 6, 5, 5, 5, 5, 5, 5, 5, 6, 6, 5, 5, 5, 5, 5, 5, 4],
+];
 
 /// The same in both versions.
 const CASES: &[Case] = &[
@@ -161,6 +232,29 @@ const CASES: &[Case] = &[
         assert_eq!(l.find(&image, 2, b"heater"), Err(40));
         assert_eq!(l.find(&image, 1, b"fan"), Err(41));
         assert_eq!(l.nth_element(&image, 1, b"heater", 0), Ok([1, 40]));
+    }),
+    ("worked: probes", |l| {
+        let (image, _) = l.after(&fresh(l), &sheet_a(), ALL);
+        let (image, _) = l.after(&image, &sheet_b(), ALL);
+        // Probed are 1, 0, 0; 1, 0, 1 where the heater would lie; 1, 2, 2.
+        assert_eq!(l.probed(&image, 0, b"probe"), (0, 3));
+        assert_eq!(l.probed(&image, 0, b"heater"), (42, 3));
+        assert_eq!(l.probed(&image, 1, b"heater"), (0, 3));
+        assert_eq!(l.probed(&image, 2, b"heater"), (40, 0));
+        assert_eq!(l.probed(&image, 1, b"fan"), (41, 0));
+        // Three frames, each without one of three names: 6 entries.
+        let keys = [(0, 1), (0, 2), (1, 0), (1, 2), (2, 0), (2, 1)];
+        let image = index(l, &keys, 3, 2);
+        let probes = |key| search(l, &image, &keys, key);
+        // 3, 1, 0, 0: before the first.
+        assert_eq!(probes((0, 0)), (0, false, 4));
+        // 3, 1, 2, 3: between.
+        assert_eq!(probes((1, 1)), (3, false, 4));
+        // 3, 5: behind the last.
+        assert_eq!(probes((2, 2)), (6, false, 2));
+        for (place, key) in keys.into_iter().enumerate() {
+            assert_eq!(probes(key), (place, true, 4));
+        }
     }),
     ("worked: elements", |l| {
         let (image, _) = l.after(&fresh(l), &sheet_a(), ALL);
@@ -459,7 +553,7 @@ const CASES: &[Case] = &[
         assert_eq!(l.after(&image[..399], &sheet_a(), 0).1, Err(29));
         assert_eq!(l.after(&image, &sheet_a(), 24).1, Ok([23, 23]));
     }),
-    ("a refusal leaves the out array, an append clears it", |l| {
+    ("a refusal leaves the out array, probes and append set it", |l| {
         let mut image = vec![0; 512];
         const BEFORE: u64 = 0x5555;
         let (mut two, mut three, mut seven) = ([BEFORE; 2], [BEFORE; 3], [BEFORE; 7]);
@@ -470,10 +564,15 @@ const CASES: &[Case] = &[
         assert_eq!(l.chunk(&image, 0, b"a", &mut two), 3);
         assert_eq!(l.element(&image, 0, b"a", 0, &mut two), 3);
         assert_eq!((two, three, seven), ([BEFORE; 2], [BEFORE; 3], [BEFORE; 7]));
+        let mut one = [BEFORE];
+        assert_eq!(l.probes(&image, 0, b"a", &mut one), 3);
+        assert_eq!(one, [0]);
         assert_eq!(l.append(&mut image, b"", ALL, &mut two), 3);
         assert_eq!(two, [0, 0]);
-        two = [BEFORE; 2];
+        (one, two) = ([BEFORE], [BEFORE; 2]);
         let mut image = fresh(l);
+        assert_eq!(l.probes(&image, 0, b"a", &mut one), 40);
+        assert_eq!(one, [0]);
         assert_eq!(l.append(&mut image, b"", ALL, &mut two), 22);
         assert_eq!(two, [0, 0]);
     }),
@@ -492,6 +591,101 @@ const CASES: &[Case] = &[
             assert_eq!(l.find(&image, 0, name), Err(41));
             assert_eq!(l.find(&image, 1, name), Err(40));
         }
+    }),
+    ("no search, no probe", |l| {
+        // No entry at all, whatever is listed.
+        for image in [fresh(l), listing(l, 512, &[b"a", b"b"])] {
+            for (frame, name) in [(0, &b"a"[..]), (0, b"fan"), (ALL, b"a")] {
+                assert_eq!(l.probed(&image, frame, name), (40, 0));
+            }
+        }
+        let good = Slot::bytes(0, 0, 384, 4);
+        let image = entries(l, 512, &[good, Slot { frame: 1, ..good }]);
+        assert_eq!(l.probed(&image, 1, b"a"), (0, 3));
+        for frame in [2, 3, 1 << 32, ALL] {
+            assert_eq!(l.probed(&image, frame, b"a"), (40, 0));
+            assert_eq!(l.probed(&image, frame, b"fan"), (40, 0));
+        }
+        for name in [&b""[..], b"\0", b"a\0", b"ab", b"b", &[b'a'; 300]] {
+            assert_eq!(l.probed(&image, 0, name), (41, 0));
+        }
+        assert_eq!(l.probed(&image[..255], 0, b"a"), (1, 0));
+        assert_eq!(l.probed(&image[..319], 0, b"a"), (6, 0));
+        assert_eq!(l.probed(&image[..387], 0, b"a"), (16, 0));
+        for (bad, number) in [
+            (Slot { location: 1, ..good }, 12),
+            (Slot { kind: 12, ..good }, 13),
+            (Slot { id: 1, ..good }, 14),
+            (good, 15),
+        ] {
+            assert_eq!(l.probed(&entries(l, 512, &[good, bad]), 0, b"a"), (number, 0));
+        }
+    }),
+    ("probes of short lists, at every place", |l| {
+        let worked =
+            PROBED_PLACES.map(|lists| lists.iter().map(|list| list.len() as u64).collect());
+        let counted = PROBE_COUNTS.map(<[u64]>::to_vec);
+        for counts in worked.into_iter().chain(counted) {
+            let entries = counts.len() - 1;
+            for free in [0, 1] {
+                // One frame with each second name; then a frame for each entry, of the second name.
+                let keys: Vec<Key> = (0..entries as u16).map(|n| (0, 2 * n + 1)).collect();
+                let image = index(l, &keys, 2 * entries + 1, free);
+                for id in 0..=2 * entries {
+                    let expected = (id / 2, id % 2 == 1, counts[id / 2]);
+                    assert_eq!(search(l, &image, &keys, (0, id as u16)), expected, "{entries}");
+                }
+                let keys: Vec<Key> = (0..entries as u64).map(|frame| (frame, 1)).collect();
+                let image = index(l, &keys, 3, free);
+                for frame in 0..entries {
+                    for (id, place) in [(0, frame), (1, frame), (2, frame + 1)] {
+                        let expected = (place, id == 1, counts[place]);
+                        let key = (frame as u64, id);
+                        assert_eq!(search(l, &image, &keys, key), expected, "{entries}");
+                    }
+                }
+            }
+        }
+    }),
+    ("probes of long lists", |l| {
+        // n entries halve to none as often as n has binary digits, and then the first is read.
+        // Behind the last it takes as many probes as n + 1 halves to 1.
+        for (entries, digits, behind) in [
+            (63, 6, 6),
+            (64, 7, 6),
+            (65, 7, 6),
+            (127, 7, 7),
+            (128, 8, 7),
+            (1023, 10, 10),
+            (1024, 11, 10),
+            (1025, 11, 10),
+        ] {
+            let keys: Vec<Key> = (0..entries).map(|frame| (frame, 1)).collect();
+            let image = index(l, &keys, 3, 1);
+            let probes = |key| search(l, &image, &keys, key);
+            for key in (0..entries).flat_map(|frame| [0, 1, 2].map(|id| (frame, id))) {
+                promised(&keys, digits, probes(key));
+            }
+            assert_eq!(probes((0, 0)), (0, false, digits + 1));
+            assert_eq!(probes((0, 1)), (0, true, digits + 1));
+            assert_eq!(probes((entries - 1, 2)), (keys.len(), false, behind));
+        }
+    }),
+    ("probes among 40,000 entries", |l| {
+        // 2,500 frames of 24 names, each third of them missing: from the first on in even frames,
+        // from the third on in odd ones.
+        let there = |&(frame, id): &Key| u64::from(id) % 3 != 2 * (frame % 2);
+        let all = || (0..2500).flat_map(|frame| (0..24).map(move |id| (frame, id)));
+        let keys: Vec<Key> = all().filter(there).collect();
+        assert_eq!(keys.len(), 40_000);
+        let image = index(l, &keys, 24, 0);
+        let probes = |key| search(l, &image, &keys, key);
+        for key in all().step_by(97) {
+            promised(&keys, 16, probes(key));
+        }
+        assert_eq!(probes((0, 0)), (0, false, 17));
+        assert_eq!(probes((0, 1)), (0, true, 17));
+        assert_eq!(probes((2499, 23)), (40_000, false, 15));
     }),
     ("create tests 2, 50, 51, 52 in this order", |l| {
         let create = |length: usize, text: &[u8], slots: u64, segments: u64| {

@@ -137,11 +137,14 @@ impl<'l> Check<'l> {
         self.judge((number, theirs), (expected, ours), || format!("entry {n}"))
     }
 
+    /// A lookup, and with each what its search probes.
     pub fn lookup(&mut self, frame: u64, name: &[u8]) -> Option<[u64; 7]> {
-        let (mut theirs, mut ours) = (Out::<7>::new(), Out::new());
+        let (mut theirs, mut ours, mut probes) = (Out::<7>::new(), Out::new(), Out::new());
         let lent = self.argument.lend(name, self.flush);
         let number = self.library.lookup(self.theirs.bytes(), frame, lent, &mut theirs.numbers);
+        let probed = self.library.probes(self.theirs.bytes(), frame, lent, &mut probes.numbers);
         self.argument_kept(name);
+        self.judge_probes((probed, probes), frame, name);
         let expected = Reference.lookup(&self.ours, frame, name, &mut ours.numbers);
         let call = || format!("lookup frame {frame} name {}", hex(name));
         self.judge((number, theirs), (expected, ours), call)
@@ -149,14 +152,33 @@ impl<'l> Check<'l> {
 
     /// A lookup whose name is a part of the image itself, as a caller has it from the n-th name.
     pub fn lookup_listed(&mut self, frame: u64, [start, length]: [u64; 2]) -> Option<[u64; 7]> {
-        let (mut theirs, mut ours) = (Out::<7>::new(), Out::new());
+        let (mut theirs, mut ours, mut probes) = (Out::<7>::new(), Out::new(), Out::new());
         let name = start as usize..(start + length) as usize;
         let image = self.theirs.bytes();
         let number = self.library.lookup(image, frame, &image[name.clone()], &mut theirs.numbers);
+        let probed = self.library.probes(image, frame, &image[name.clone()], &mut probes.numbers);
+        let text = self.ours[name.clone()].to_vec();
+        self.judge_probes((probed, probes), frame, &text);
         let image = &self.ours;
         let expected = Reference.lookup(image, frame, &image[name.clone()], &mut ours.numbers);
         let call = || format!("lookup frame {frame} name at {name:?}");
         self.judge((number, theirs), (expected, ours), call)
+    }
+
+    /// Compares a count of probes, and holds it to what knows no halving: its bound, and that a
+    /// search reads something where there is one.
+    fn judge_probes(&mut self, (number, theirs): (u64, Out<1>), frame: u64, name: &[u8]) {
+        let mut ours = Out::new();
+        let expected = Reference.probes(&self.ours, frame, name, &mut ours.numbers);
+        let call = || format!("probes frame {frame} name {}", hex(name));
+        let [count] = theirs.numbers;
+        self.judge((number, theirs), (expected, ours), call);
+        let entries = crate::reference::open(&self.ours).map_or(0, |counts| counts.entries);
+        let digits = u64::BITS - entries.leading_zeros();
+        let searched = [0, 42].contains(&number);
+        if count > u64::from(digits + 1) || searched != (count > 0) {
+            self.fail(|| format!("{}\n  answers  {number} [{count}] of {entries}", call()));
+        }
     }
 
     pub fn chunk(&mut self, frame: u64, name: &[u8]) -> Option<[u64; 2]> {

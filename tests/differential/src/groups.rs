@@ -4,7 +4,7 @@ use crate::check::{names_of, Check};
 use crate::demand3::{Call, Run};
 use crate::generate::{self, Layout};
 use crate::images::{
-    blank, put32, put64, put_names, put_slots, sheet, version, Row, Slot, MAGIC, VERSIONS,
+    blank, get64, put32, put64, put_names, put_slots, sheet, version, Row, Slot, MAGIC, VERSIONS,
 };
 use crate::library::{Create, Library, Reference};
 use crate::random::Rng;
@@ -37,6 +37,7 @@ pub const GROUPS: &[Group] = &[
     group("a long index", 10, long_index),
     group("the longest slices", 1, longest),
     group("a run of appends, word for word", 1000, demand3),
+    group("searches in lists of many lengths", 400, searches),
 ];
 
 /// Every call once, on whatever the image is.
@@ -44,6 +45,7 @@ fn touch(check: &mut Check, sheet: &[u8], limit: u64) {
     check.open();
     check.name(0);
     check.entry(0);
+    // And probes with it.
     check.lookup(0, b"a");
     check.chunk(0, b"a");
     check.element(0, b"a", 0);
@@ -363,24 +365,59 @@ fn night(check: &mut Check, rng: &mut Rng) {
     }
 }
 
+/// Up to 16 names, and an image with so many frames of them: all are in all frames, or some are
+/// left out anywhere. Behind the list are up to two more slots.
+fn indexed(rng: &mut Rng, frames: usize, names: usize) -> (Vec<Vec<u8>>, Vec<u8>) {
+    let listed: Vec<_> = (0..names).map(|n| format!("name {n:02}").into_bytes()).collect();
+    let percent = rng.pick(&[0, 50, 90, 100]);
+    let mut entries = Vec::with_capacity(frames * names + 2);
+    for frame in 0..frames as u64 {
+        let at_least = rng.below(names);
+        for id in 0..names {
+            if id == at_least || rng.chance(percent) {
+                entries.push(Slot::bytes(frame, id as u16, 0, 4));
+            }
+        }
+    }
+    let slots = entries.len() + rng.below(3);
+    let data = 256 + 32 * slots + 128;
+    for entry in &mut entries {
+        entry.location = data as u64 + entry.frame % 4000;
+    }
+    // The list's end, and a leftover that would be lawful.
+    let next = Slot::bytes(frames as u64, 0, data as u64, 4);
+    entries.extend([Slot { location: 0, ..next }, next]);
+    let mut image = blank(data + 4096, 256, slots as u64, (data - 128) as u64, 2);
+    put32(&mut image, 44, rng.pick(&VERSIONS));
+    put_slots(&mut image, 256, &entries[..slots]);
+    put_names(&mut image, data - 128, listed.iter().map(Vec::as_slice));
+    (listed, image)
+}
+
+/// Every name in every frame, and beside them.
+fn searches(check: &mut Check, rng: &mut Rng) {
+    let frames = rng.below(24);
+    let names = rng.between(1, 16);
+    let (listed, image) = indexed(rng, frames, names);
+    check.load(&image);
+    for frame in 0..=frames as u64 {
+        for name in listed.iter().map(Vec::as_slice).chain([&b"no such name"[..]]) {
+            check.lookup(frame, name);
+        }
+    }
+}
+
 /// Thousands of entries, with something wrong near their end or not.
 fn long_index(check: &mut Check, rng: &mut Rng) {
     let (frames, names) = (rng.between(1000, 2500), 16);
-    let slots = frames * names + rng.below(3);
-    let data = 256 + 32 * slots + 128;
-    let mut image = blank(data + 4096, 256, slots as u64, (data - 128) as u64, 2);
-    put32(&mut image, 44, rng.pick(&VERSIONS));
-    let listed: Vec<_> = (0..names).map(|n| format!("name {n:02}").into_bytes()).collect();
-    put_names(&mut image, data - 128, listed.iter().map(Vec::as_slice));
-    let mut entries = Vec::with_capacity(frames * names);
-    for frame in 0..frames as u64 {
-        for id in 0..names as u16 {
-            entries.push(Slot::bytes(frame, id, data as u64 + frame % 4000, 4));
-        }
-    }
-    put_slots(&mut image, 256, &entries);
+    let (listed, mut image) = indexed(rng, frames, names);
+    let slots = get64(&image, 16) as usize;
     check.load(&image);
     check.open();
+    for frame in [0, frames - 1] {
+        check.lookup(frame as u64, &listed[0]);
+        check.lookup(frame as u64, &listed[names - 1]);
+    }
     for _ in 0..40 {
         check.read(rng.below(frames + 2) as u64, &listed[rng.below(names)]);
         check.entry(rng.below(slots + 2) as u64);
@@ -449,6 +486,10 @@ fn longest(check: &mut Check, _: &mut Rng) {
             let a = library.element(theirs, 0, b"a", last, &mut x);
             let b = Reference.element(ours, 0, b"a", last, &mut y);
             both(check, "element", (a, x), (b, y));
+            let (mut p, mut q) = ([5], [5]);
+            let a = library.probes(theirs, 0, b"b", &mut p);
+            let b = Reference.probes(ours, 0, b"b", &mut q);
+            both(check, "probes", (a, [p[0], 0]), (b, [q[0], 0]));
             let a = library.append(theirs, sheet, limit, &mut x);
             let b = Reference.append(ours, sheet, limit, &mut y);
             both(check, "append", (a, x), (b, y));

@@ -1,9 +1,9 @@
 //! The calls as the C interface has them, so that any two makers can be held side by side.
 
-use crate::reference::{self, Answer, Element, Entry};
+use crate::reference::{self, Answer, Element, Entry, Probes};
 
 /// The result is the number of the refusal, 0 for an answer. A refusal leaves `out` as it was, but
-/// for the append's, which is set to 0 and 0.
+/// for those of probes and append, which are set at every call: a refused append's to 0 and 0.
 pub trait Library: Sync {
     /// `out`: frames, names, entries.
     fn open(&self, image: &[u8], out: &mut [u64; 3]) -> u64;
@@ -17,6 +17,8 @@ pub trait Library: Sync {
     fn chunk(&self, image: &[u8], frame: u64, name: &[u8], out: &mut [u64; 2]) -> u64;
     /// `out`: kind (1 unsigned, 2 signed, 3 single, 4 double), bits.
     fn element(&self, image: &[u8], frame: u64, name: &[u8], k: u64, out: &mut [u64; 2]) -> u64;
+    /// The lookup's number. `out`: entries probed, 0 where no search was made.
+    fn probes(&self, image: &[u8], frame: u64, name: &[u8], out: &mut [u64; 1]) -> u64;
     fn create(&self, image: &mut [u8], request: Create) -> u64;
     /// `out`: done, whole.
     fn append(&self, image: &mut [u8], sheet: &[u8], limit: u64, out: &mut [u64; 2]) -> u64;
@@ -85,6 +87,12 @@ impl Library for Reference {
         give(numbers, out)
     }
 
+    fn probes(&self, image: &[u8], frame: u64, name: &[u8], out: &mut [u64; 1]) -> u64 {
+        let Probes { count, answer } = reference::probes(image, frame, name);
+        *out = [count];
+        answer.err().unwrap_or(0)
+    }
+
     fn create(&self, image: &mut [u8], request: Create) -> u64 {
         let Create { application, schema, schema_version, slots, segments } = request;
         reference::create(image, application, schema, schema_version, slots, segments)
@@ -149,6 +157,14 @@ mod linked {
             unsafe {
                 let out = out.as_mut_ptr();
                 ffi::dialmoth_element(image, length, frame, name.as_ptr(), name.len(), k, out)
+            }
+        }
+
+        fn probes(&self, image: &[u8], frame: u64, name: &[u8], out: &mut [u64; 1]) -> u64 {
+            let (image, length) = (image.as_ptr(), image.len());
+            unsafe {
+                let out = out.as_mut_ptr();
+                ffi::dialmoth_probes(image, length, frame, name.as_ptr(), name.len(), out)
             }
         }
 

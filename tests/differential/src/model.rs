@@ -85,6 +85,18 @@ faults! {
     CharacterInAnySheet,
     CharacterInNoSheet,
     AppendMakes2_1,
+    ProbesOfWalk,
+    ProbesByDigits,
+    LastProbeNotCounted,
+    SearchEndsAtFind,
+    MiddleBelow,
+    HalvesToFrame,
+    IdNotCompared,
+    SlotsSearched,
+    EntryBeforeTaken,
+    SearchBeforeTests,
+    RefusedProbesKeepOut,
+    NoChunkNoProbes,
 }
 
 pub struct Model {
@@ -147,6 +159,29 @@ impl Listed {
     fn length(self) -> u128 {
         self.n * self.m * width(self.kind)
     }
+
+    fn key(self) -> Key {
+        (self.frame, self.id)
+    }
+}
+
+/// "The list is sorted by frame and id."
+type Key = (u128, u128);
+
+/// Binary digits, none for 0.
+fn digits(number: usize) -> usize {
+    (0..usize::BITS).take_while(|power| number >> power > 0).count()
+}
+
+/// Of the list of probes: it "holds the found entry, or else those next to its place; n entries
+/// take at most one probe more than n has binary digits". No word of this is about halving.
+fn kept(entries: &[Listed], key: Key, probed: &[usize]) -> bool {
+    let place = entries.iter().filter(|entry| entry.key() < key).count();
+    let held = match entries.iter().position(|entry| entry.key() == key) {
+        Some(found) => found..found + 1,
+        None => place.saturating_sub(1)..entries.len().min(place + 1),
+    };
+    probed.len() <= digits(entries.len()) + 1 && held.into_iter().all(|at| probed.contains(&at))
 }
 
 struct View {
@@ -380,17 +415,90 @@ impl Model {
     }
 
     fn found(&self, image: &[u8], frame: u64, name: &[u8]) -> Verdict<Listed> {
-        let view = self.view(image)?;
-        let past = u128::from(self.has(Fault::LookupPastLastFrame));
-        if u128::from(frame) >= view.frames() + past {
-            return Err(40);
-        }
-        let listed = |&(at, length): &(usize, usize)| &image[at..at + length] == name;
-        let Some(id) = view.names.iter().position(listed) else {
-            return Err(41);
+        self.search(image, frame, name).0
+    }
+
+    /// What a lookup answers, found by a walk; and "a defined list of the entries probed", by their
+    /// places.
+    fn search(&self, image: &[u8], frame: u64, name: &[u8]) -> (Verdict<Listed>, Vec<usize>) {
+        let view = match self.view(image) {
+            Ok(view) => view,
+            Err(number) => return (Err(number), Vec::new()),
         };
-        let here = |entry: &&Listed| entry.frame == u128::from(frame) && entry.id == id as u128;
-        view.entries.iter().find(here).copied().ok_or(42)
+        let listed = |&(at, length): &(usize, usize)| &image[at..at + length] == name;
+        let id = view.names.iter().position(listed);
+        let key = (u128::from(frame), id.unwrap_or(view.names.len()) as u128);
+        let past = u128::from(self.has(Fault::LookupPastLastFrame));
+        let number = match id {
+            _ if key.0 >= view.frames() + past => 40,
+            None => 41,
+            Some(_) => 0,
+        };
+        let mut entries = view.entries;
+        if number > 0 {
+            let early = self.has(Fault::SearchBeforeTests);
+            let probed =
+                if early { self.halved(&entries, key, 0, entries.len()) } else { Vec::new() };
+            return (Err(number), probed);
+        }
+        let here = |entry: &Listed| entry.key() == key;
+        let walked = entries.iter().position(here);
+        let before = entries.iter().rposition(|entry| entry.key() < key);
+        if self.has(Fault::SlotsSearched) {
+            let slot = |slot| Listed::at(image, (view.index + 32 * slot) as usize);
+            entries = (0..view.slots).map(slot).collect();
+        }
+        let probed = self.halved(&entries, key, 0, entries.len());
+        if self.fault.is_none() {
+            assert!(kept(&entries, key, &probed), "{key:?} of {}: {probed:?}", entries.len());
+        }
+        let found = match self.fault {
+            Some(Fault::EntryBeforeTaken) => walked.or(before),
+            // No walk stands beside these.
+            Some(Fault::IdNotCompared | Fault::SlotsSearched) => {
+                probed.last().copied().filter(|&place| here(&entries[place]))
+            }
+            _ => walked,
+        };
+        let probed = match self.fault {
+            Some(Fault::ProbesOfWalk) => {
+                (0..walked.map_or(entries.len(), |place| place + 1)).collect()
+            }
+            Some(Fault::ProbesByDigits) => vec![0; digits(entries.len()) + 1],
+            Some(Fault::NoChunkNoProbes) if found.is_none() => Vec::new(),
+            _ => probed,
+        };
+        (found.map(|place| entries[place]).ok_or(42), probed)
+    }
+
+    /// "The search for an entry should halve it": the places probed from here on, where `count`
+    /// entries are left, from the place `from` on. Of two in the middle the upper one is probed.
+    fn halved(&self, entries: &[Listed], key: Key, from: usize, count: usize) -> Vec<usize> {
+        if count == 0 {
+            // All before are below the key, the others are not. What stands here is read.
+            let walked = entries[from..].iter().take_while(|entry| entry.key() < key).count();
+            let read = match self.fault {
+                Some(Fault::LastProbeNotCounted) => 0,
+                Some(Fault::HalvesToFrame) => walked + 1,
+                _ => 1,
+            };
+            return (from..entries.len()).take(read).collect();
+        }
+        let half = if self.has(Fault::MiddleBelow) { (count - 1) / 2 } else { count / 2 };
+        let middle = from + half;
+        let entry = entries[middle];
+        let below = match self.fault {
+            Some(Fault::IdNotCompared | Fault::HalvesToFrame) => entry.frame < key.0,
+            _ => entry.key() < key,
+        };
+        let rest = if below {
+            self.halved(entries, key, middle + 1, count - half - 1)
+        } else if entry.key() == key && self.has(Fault::SearchEndsAtFind) {
+            Vec::new()
+        } else {
+            self.halved(entries, key, from, half)
+        };
+        [vec![middle], rest].concat()
     }
 
     fn rows<'s>(&self, sheet: &'s [u8], version: u128) -> Verdict<Vec<Row<'s>>> {
@@ -740,6 +848,15 @@ impl Library for Model {
             })
         });
         self.give(element, out)
+    }
+
+    fn probes(&self, image: &[u8], frame: u64, name: &[u8], out: &mut [u64; 1]) -> u64 {
+        let (answer, probed) = self.search(image, frame, name);
+        if answer.is_ok() || !self.has(Fault::RefusedProbesKeepOut) {
+            // "The search answers its count, the length of" the list.
+            *out = [probed.len() as u64];
+        }
+        answer.err().unwrap_or(0)
     }
 
     fn create(&self, image: &mut [u8], request: Create) -> u64 {

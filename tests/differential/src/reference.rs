@@ -1,5 +1,5 @@
-//! Document 01 in plain Rust, with what document 02 has changed of it (W-201), written from the
-//! papers alone.
+//! Document 01 in plain Rust, with what document 02 has changed of it (W-201, W-202), written from
+//! the papers alone.
 //!
 //! It is the independent second opinion of the differential tests and the baseline of the
 //! benchmark: a refusal is `Err` with its number, and nothing else is shared with the library.
@@ -45,6 +45,13 @@ pub enum Element {
     Signed(i64),
     Single(u32),
     Double(u64),
+}
+
+/// How many entries a lookup's search probes, and whether the lookup is refused.
+#[derive(Clone, Copy, Debug, PartialEq, Eq)]
+pub struct Probes {
+    pub count: u64,
+    pub answer: Answer<()>,
 }
 
 #[derive(Clone, Copy, Debug, PartialEq, Eq)]
@@ -100,6 +107,10 @@ fn bytes_of(n: u64, m: u32, size: u64) -> Option<u64> {
 }
 
 impl Entry {
+    fn key(self) -> (u64, u16) {
+        (self.frame, self.id)
+    }
+
     fn read(slot: &[u8; SLOT]) -> Entry {
         Entry {
             frame: u64_at(slot, 0),
@@ -261,18 +272,45 @@ impl<'a> Image<'a> {
         self.names.iter().position(|&listed| listed == name).map(|id| id as u16)
     }
 
-    fn lookup(&self, frame: u64, name: &[u8]) -> Answer<Entry> {
+    /// What the index is sorted by, of a frame that is there and a name that is listed.
+    fn key(&self, frame: u64, name: &[u8]) -> Answer<(u64, u16)> {
         if frame >= self.frames {
             return Err(40);
         }
-        let id = self.id_of(name).ok_or(41_u64)?;
+        self.id_of(name).map(|id| (frame, id)).ok_or(41)
+    }
+
+    fn lookup(&self, frame: u64, name: &[u8]) -> Answer<Entry> {
+        let key = self.key(frame, name)?;
         self.entries
-            .binary_search_by_key(&(frame, id), |slot| {
-                let entry = Entry::read(slot);
-                (entry.frame, entry.id)
-            })
+            .binary_search_by_key(&key, |slot| Entry::read(slot).key())
             .map(|found| Entry::read(&self.entries[found]))
             .map_err(|_| 42)
+    }
+
+    /// The search of W-202, its probes counted: the middle one of the entries left, or the upper
+    /// one of two (W-202 leaves that open, docs/DECISIONS.md does not), until none is left; then the
+    /// first that is not below the key, whose place is found. The standard library's search reads
+    /// others.
+    fn search(&self, key: (u64, u16)) -> Probes {
+        let mut count = 0;
+        let mut probe = |slot: &[u8; SLOT]| {
+            count += 1;
+            Entry::read(slot)
+        };
+        let mut left = self.entries;
+        let mut place = 0;
+        while !left.is_empty() {
+            let half = left.len() / 2;
+            if probe(&left[half]).key() < key {
+                place += half + 1;
+                left = &left[half + 1..];
+            } else {
+                left = &left[..half];
+            }
+        }
+        let found = self.entries.get(place).is_some_and(|slot| probe(slot).key() == key);
+        Probes { count, answer: found.then_some(()).ok_or(42) }
     }
 
     /// The bytes of a listed chunk, which lies within the slice.
@@ -359,6 +397,13 @@ pub fn element(image: &[u8], frame: u64, name: &[u8], k: u64) -> Answer<Element>
         10 => Element::Double(u64::from_le_bytes(at(data, k))),
         _ => unreachable!("a listed entry has a known type"),
     })
+}
+
+pub fn probes(image: &[u8], frame: u64, name: &[u8]) -> Probes {
+    match Image::open(image).and_then(|image| Ok((image.key(frame, name)?, image))) {
+        Ok((key, image)) => image.search(key),
+        Err(number) => Probes { count: 0, answer: Err(number) },
+    }
 }
 
 pub fn create(

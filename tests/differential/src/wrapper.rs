@@ -80,6 +80,11 @@ pub fn hold() {
             assert_eq!(found, Linked.find(&image, frame, name));
             let bytes = dialmoth::chunk(&image, frame, name).map_err(number);
             assert_eq!(bytes, Linked.bytes(&image, frame, name));
+            let probes = dialmoth::probes(&image, frame, name);
+            assert_eq!(
+                (probes.refusal.map_or(0, number), probes.count),
+                Linked.probed(&image, frame, name)
+            );
             for k in 0..3 {
                 let element = dialmoth::element(&image, frame, name, k);
                 let element = element.map(kind_and_bits).map_err(number);

@@ -83,6 +83,20 @@ pub unsafe extern "C" fn dialmoth_element(
 /// # Safety
 /// As `dialmoth_open`.
 #[no_mangle]
+pub unsafe extern "C" fn dialmoth_probes(
+    image: *const u8,
+    length: usize,
+    frame: u64,
+    name: *const u8,
+    name_length: usize,
+    out: *mut u64,
+) -> u64 {
+    Reference.probes(part(image, length), frame, part(name, name_length), &mut *out.cast())
+}
+
+/// # Safety
+/// As `dialmoth_open`.
+#[no_mangle]
 pub unsafe extern "C" fn dialmoth_create(
     image: *mut u8,
     length: usize,

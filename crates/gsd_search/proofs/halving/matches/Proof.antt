@@ -1,8 +1,8 @@
 -- The test of the definition, frame first.
 use borrow.Author.Tests.{ne-eqb, eq-eqb}
 use borrow.Author.Needs.{needs}
-use Rattle.gsd_read.proofs.found.matches.Statement.{statement}
-use Rattle.gsd_read.proofs.found.matches.Tie as tie
+use Rattle.gsd_search.proofs.halving.matches.Statement.{statement}
+use Rattle.gsd_search.proofs.halving.matches.Tie as tie
 
 returns : tie.Need-returns
 returns c = rw (ne-eqb _ _ (c .if1 .taken))

@@ -1,0 +1,3 @@
+-- Laws that the proofs of the search share.
+pub mod Progress
+pub mod OneProbe

@@ -1,0 +1,2 @@
+-- What the search is given and what it probes.
+pub mod Queries
