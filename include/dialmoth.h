@@ -36,7 +36,7 @@ extern "C" {
 /* The refusals, R(number, name, text) for each: refused exactly when the text
  * holds. The first that applies is answered. */
 #define DIALMOTH_REFUSALS(R)                                                                    \
-    /* Opening, in this order; every call but create opens first. Tests 12 to 17 run            \
+    /* Opening, in this order; every call but create opens first. Tests 12 to 18 run            \
      * entry by entry: the first bad entry decides, and in it the lowest number. */             \
     R(1, DIALMOTH_SHORT_IMAGE, "image under 256 bytes")                                         \
     R(2, DIALMOTH_LONG_IMAGE, "image over 1,073,741,824 bytes")                                 \
@@ -52,12 +52,13 @@ extern "C" {
     R(12, DIALMOTH_LOW_LOCATION, "an entry's location is negative, or below 256 and not 0")     \
     R(13, DIALMOTH_UNKNOWN_TYPE, "an entry's type is not known in this version")                \
     R(14, DIALMOTH_UNKNOWN_ID, "an entry's id is not below the number of names")                \
-    R(15, DIALMOTH_FRAME_ORDER,                                                                 \
-      "first frame not 0, frame skipped, or (frame, id) not above the entry before")            \
+    R(15, DIALMOTH_FRAME_ORDER, "an entry's (frame, id) not above the entry before")            \
     R(16, DIALMOTH_CHUNK_OUTSIDE, "a chunk ends beyond the image")                              \
     R(17, DIALMOTH_CHUNK_IN_BLOCK, "a chunk shares a byte with a block")                        \
+    R(18, DIALMOTH_LARGE_FRAME, "an entry's frame above 4,294,967,294")                         \
     /* Append, in this order. */                                                                \
     R(21, DIALMOTH_UNALIGNED_BLOCK, "index or name location not a multiple of 8")               \
+    R(31, DIALMOTH_FRAMES_FULL, "the last frame is 4,294,967,294")                              \
     R(22, DIALMOTH_ROW_COUNT, "sheet under 4 bytes, or its count is 0 or above 64")             \
     R(23, DIALMOTH_SHORT_TABLE, "sheet shorter than its table")                                 \
     R(24, DIALMOTH_BAD_ROW,                                                                     \
@@ -138,7 +139,10 @@ enum dialmoth_field {
     DIALMOTH_ENTRY_FIELDS
 };
 
-/* Opens the image. out: frames, names, entries. */
+/* Opens the image. out: frames, names, entries.
+ * The number of frames is the last entry's frame plus 1, or 0 without entries.
+ * A frame may be empty, at the start or anywhere: two entries can make
+ * 4,294,967,295 frames, so go from entry to entry and not from frame to frame. */
 uint64_t dialmoth_open(const uint8_t *image, size_t image_length,
                        uint64_t out[3]);
 
@@ -153,7 +157,8 @@ uint64_t dialmoth_entry(const uint8_t *image, size_t image_length, uint64_t n,
                         uint64_t out[7]);
 
 /* The entry of a name in a frame. DIALMOTH_NO_CHUNK says that the frame has no
- * such chunk: no value stands for that, not even 0. out: as dialmoth_entry. */
+ * such chunk: no value stands for that, not even 0. An empty frame has none.
+ * out: as dialmoth_entry. */
 uint64_t dialmoth_lookup(const uint8_t *image, size_t image_length,
                          uint64_t frame, const uint8_t *name,
                          size_t name_length, uint64_t out[7]);
@@ -197,6 +202,7 @@ uint64_t dialmoth_create(uint8_t *image, size_t image_length,
 
 /* Appends the sheet's chunks as one new frame, by 8-byte stores on multiples of
  * 8 in a fixed order, and stops after `limit` of them; UINT64_MAX makes all.
+ * Its number is the number of frames so far; empty frames stay empty.
  * The frame is there once the last store is made, and not before: after a stop
  * every older frame reads as it did, and the same append may be made again. (A
  * block that was moved before the stop stays moved, so it may take more room.)

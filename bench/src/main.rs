@@ -346,7 +346,7 @@ fn probes() {
     println!("|---|---|---|---|");
     let rows = [
         ("16 names, none missing in any frame", work::month()),
-        ("24 names, each third missing", work::month_with_gaps()),
+        ("24 names, each third missing", work::month_with_missing()),
     ];
     for (what, image) in rows {
         for (of, how) in work::probed(library, &image).iter().zip(["found", "not found"]) {

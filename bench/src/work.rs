@@ -44,7 +44,7 @@ pub fn month() -> Vec<u8> {
 
 /// 24 names, each third of them missing: from the first on in even frames, from the third on in odd
 /// ones.
-pub fn month_with_gaps() -> Vec<u8> {
+pub fn month_with_missing() -> Vec<u8> {
     index(24, |frame, id| u64::from(id) % 3 != 2 * (frame % 2), 0)
 }
 
@@ -56,12 +56,12 @@ pub struct Probed {
     pub most: u64,
 }
 
-/// Every name in every frame: those found, and those not.
+/// Every name in every frame of a month: those found, and those not.
 pub fn probed(library: &dyn Library, image: &[u8]) -> [Probed; 2] {
-    let [frames, names, _] = library.counts(image).unwrap();
+    let [_, names, _] = library.counts(image).unwrap();
     let names: Vec<_> = (0..names).map(|n| library.nth_name(image, n).unwrap()).collect();
     let mut probed = [Probed::default(), Probed::default()];
-    for frame in 0..frames {
+    for frame in 0..MONTH {
         for name in &names {
             let (number, probes) = library.probed(image, frame, name);
             assert!(number == 0 || number == 42);

@@ -12,7 +12,7 @@
 //! ```
 //!
 //! What is not there is a refusal and never a stand-in value: [`Refusal::NO_CHUNK`] says that a
-//! frame has no such chunk.
+//! frame has no such chunk. A frame may be empty: go from entry to entry, not from frame to frame.
 //!
 //! The package needs `core` alone, but for [`sheet`], which answers a `Vec`: it is left out without
 //! the default feature `alloc`, and [`put_sheet`] writes the same bytes to a lent slice.
@@ -74,6 +74,7 @@ impl Type {
 /// What opening an image tells.
 #[derive(Clone, Copy, Debug, PartialEq, Eq)]
 pub struct Counts {
+    /// The last entry's frame plus 1, or 0 without entries; any frame before it may be empty.
     pub frames: u64,
     pub names: u64,
     pub entries: u64,
@@ -257,8 +258,9 @@ pub fn create(
     Ok(())
 }
 
-/// Makes the first `limit` stores of the append of a sheet's chunks as one new frame. The image keeps
-/// its version, and one of 2.0 refuses a character ([`Refusal::BAD_ROW`]).
+/// Makes the first `limit` stores of the append of a sheet's chunks as one new frame; its number is
+/// the number of frames so far. The image keeps its version, and one of 2.0 refuses a character
+/// ([`Refusal::BAD_ROW`]).
 pub fn append(image: &mut [u8], sheet: &[u8], limit: u64) -> Result<Stores, Refusal> {
     let [done, whole] = answer(|out| unsafe {
         let image = (image.as_mut_ptr(), image.len());

@@ -29,7 +29,7 @@ macro_rules! refusals {
 }
 
 refusals! {
-    // Opening, in this order; every call but create opens first. Tests 12 to 17 run entry by entry.
+    // Opening, in this order; every call but create opens first. Tests 12 to 18 run entry by entry.
     1 SHORT_IMAGE "image under 256 bytes"
     2 LONG_IMAGE "image over 1,073,741,824 bytes"
     3 WRONG_MAGIC "wrong magic"
@@ -44,11 +44,13 @@ refusals! {
     12 LOW_LOCATION "an entry's location is negative, or below 256 and not 0"
     13 UNKNOWN_TYPE "an entry's type is not known in this version"
     14 UNKNOWN_ID "an entry's id is not below the number of names"
-    15 FRAME_ORDER "first frame not 0, frame skipped, or (frame, id) not above the entry before"
+    15 FRAME_ORDER "an entry's (frame, id) not above the entry before"
     16 CHUNK_OUTSIDE "a chunk ends beyond the image"
     17 CHUNK_IN_BLOCK "a chunk shares a byte with a block"
+    18 LARGE_FRAME "an entry's frame above 4,294,967,294"
     // Append, in this order.
     21 UNALIGNED_BLOCK "index or name location not a multiple of 8"
+    31 FRAMES_FULL "the last frame is 4,294,967,294"
     22 ROW_COUNT "sheet under 4 bytes, or its count is 0 or above 64"
     23 SHORT_TABLE "sheet shorter than its table"
     24 BAD_ROW "a row with a type not known in this version, name length 0 or spare bytes not 0"

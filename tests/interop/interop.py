@@ -7,7 +7,8 @@ The last line is 'N passed, M failed'.
 Conditions, for what is more than GSD allows cannot be read by it: names in UTF-8, M at least 1, at
 least one slot and one segment, flags 0. Characters it reads as one text, so they are UTF-8 with N at
 least 1 and M 1, and gsd.fl drops zeros at their end; it writes ASCII alone. A library that knows no
-characters, as gsd 2.7.0, refuses the file or the chunk. An image whose last append was stopped is for
+characters, as gsd 2.7.0, refuses the file or the chunk. A frame may have no chunk, but the number of the
+last one that has some is to be below the number of slots. An image whose last append was stopped is for
 this library's own readers only, until the clearing stores of the next append are made: the C reader
 finds the list's end by halving, and looks at slots behind it.
 """
@@ -126,6 +127,16 @@ def random_frame(rng, letters=""):
         raw = rng.randbytes(shape[0] * shape[1] * dtype.itemsize)
         frame[name] = numpy.frombuffer(raw, dtype).reshape(shape)
     return frame
+
+
+def random_frames(rng, most):
+    """Up to so many frames that the real library can write."""
+    return [random_frame(rng, ASCII) for _ in range(rng.randint(0, most))]
+
+
+def spread(rng, frames):
+    """The frames, with gaps before and between them: frames without a chunk, one or some in a row."""
+    return [each for frame in frames for each in [{}] * rng.choice([0, 0, 1, 3]) + [frame]]
 
 
 def same(found, data):
@@ -266,8 +277,18 @@ def clears(path, entries, names):
     return 4 * (slots - entries) + (64 * segments - end // 8 * 8) // 8
 
 
-def write_frames(file, rng, count):
-    frames = [random_frame(rng, ASCII) for _ in range(count)]
+def renumber(path, frames):
+    """Gives the entries of an image the frames that they have in this list, which may have gaps."""
+    at = header(path)[0]
+    with open(path, "r+b") as file:
+        for number, frame in enumerate(frames):
+            for _ in frame:
+                file.seek(at)
+                file.write(struct.pack("<Q", number))
+                at += 32
+
+
+def write_frames(file, frames):
     for frame in frames:
         for name, data in frame.items():
             if NUMBERS[data.dtype] == 11:
@@ -276,19 +297,24 @@ def write_frames(file, rng, count):
                 data = data[:, 0]
             file.write_chunk(name, data)
         file.end_frame()
-    return frames
 
 
-def write_real(rng, path, count):
-    """A file that the real library writes; its frames."""
+def write_real(path, frames):
+    """A file that the real library writes."""
     texts = {"application": "real", "schema": "interop", "schema_version": [1, 2]}
     with gsd.fl.open(path, WRITE, **texts) as file:
-        return write_frames(file, rng, count)
+        write_frames(file, frames)
 
 
-def append_real(rng, path):
+def append_real(path, frames):
     with gsd.fl.open(path, GROW) as file:
-        return write_frames(file, rng, rng.randint(1, 5))
+        write_frames(file, frames)
+
+
+def make_longer(path):
+    """Room for an append: a file has none behind its end."""
+    with open(path, "ab") as file:
+        file.write(bytes(100_000))
 
 
 def first_lines(path):
@@ -416,8 +442,20 @@ class Tests:
                         assert raw in (data.tobytes(), data.tobytes().rstrip(b"\0")), (name, found)
 
     def real_file(self, rng, path):
-        frames = write_real(rng, path, rng.randint(0, 40))
-        assert layer_of(path) == self.layer
+        frames = random_frames(rng, 40)
+        write_real(path, frames)
+        self.both_read(path, frames)
+
+    def real_file_with_gaps(self, rng, path):
+        """Frames without a chunk behind the last chunk leave nothing in a file: no reader counts them."""
+        frames = spread(rng, random_frames(rng, 20))
+        write_real(path, frames + [{}] * rng.choice([0, 1, 3]))
+        self.both_read(path, frames)
+        self.grown(rng, path, frames)
+
+    def both_read(self, path, frames):
+        """The real library's file, which both read as it was written."""
+        real_reads(path, frames, self.layer)
         with gsd.fl.open(path, READ) as file:
             names = file.find_matching_chunk_names("")
         ours_reads(self.peer, path, frames, names)
@@ -430,20 +468,59 @@ class Tests:
         frames = [random_frame(rng, letters) for _ in range(rng.randint(1, 5))]
         for frame in frames:
             assert self.peer.append(path, frame)[0] == 0
-        frames += append_real(rng, path)
+        more = [random_frame(rng, ASCII) for _ in range(rng.randint(1, 5))]
+        append_real(path, more)
+        ours_reads(self.peer, path, frames + more)
+        real_reads(path, frames + more, max(layer, self.layer))
+
+    def both_grow_gaps(self, rng, path):
+        """An image of ours with gaps: each append, ours and the real library's, goes behind the last
+        frame, and into no gap."""
+        letters = create(self.peer, rng, path, 10_000, 64, 16)
+        layer = layer_of(path)
+        frames = [random_frame(rng, letters) for _ in range(rng.randint(1, 4))]
+        for frame in frames:
+            assert self.peer.append(path, frame)[0] == 0
+        frames = spread(rng, frames)
+        renumber(path, frames)
         ours_reads(self.peer, path, frames)
-        real_reads(path, frames, max(layer, self.layer))
+        real_reads(path, frames, layer)
+        frames.append(random_frame(rng, letters))
+        assert self.peer.append(path, frames[-1])[0] == 0
+        ours_reads(self.peer, path, frames)
+        real_reads(path, frames, layer)
+        more = spread(rng, [random_frame(rng, ASCII) for _ in range(rng.randint(1, 4))])
+        append_real(path, more)
+        ours_reads(self.peer, path, frames + more)
+        real_reads(path, frames + more, max(layer, self.layer))
+
+    def far_frame(self, rng, path):
+        """A frame not below the slots is one that the real library writes but does not read back; its
+        fresh files have 128."""
+        frame = random_frame(rng)
+        frames = [{}] * 127 + [frame]
+        write_real(path, frames)
+        assert header(path)[1] == 128
+        self.both_read(path, frames)
+        make_longer(path)
+        assert self.peer.append(path, frame)[0] == 0
+        assert header(path)[1] == 128
+        ours_reads(self.peer, path, [*frames, frame])
+        assert all(map(corrupt, readers(path)))
+        write_real(path, [{}, *frames])
+        ours_reads(self.peer, path, [{}, *frames])
+        assert all(map(corrupt, readers(path)))
 
     def ours_grows_real(self, rng, path):
         """We append to the real library's file, and both read all of it."""
-        frames = write_real(rng, path, rng.randint(0, 40))
+        frames = random_frames(rng, 40)
+        write_real(path, frames)
         self.grown(rng, path, frames)
 
     def grown(self, rng, path, frames):
         """We append to a file with room behind it: it stays of its layer."""
         layer = layer_of(path)
-        with open(path, "ab") as file:
-            file.write(bytes(100_000))
+        make_longer(path)
         frame = random_frame(rng, LETTERS if layer == (2, 1) else "")
         number, done, whole = self.peer.append(path, frame)
         index, _, names, _ = header(path)
@@ -489,7 +566,7 @@ def main():
     seed = sys.argv[3] if len(sys.argv) > 3 else "1"
     with tempfile.TemporaryDirectory() as folder:
         fresh = os.path.join(folder, "fresh.gsd")
-        write_real(random.Random(seed), fresh, 0)
+        write_real(fresh, [])
         layer = layer_of(fresh)
         print(f"gsd {GSD}, which writes layer {layer[0]}.{layer[1]} and",
               "knows" if CHARACTERS else "does not know", f"characters; numpy {numpy.__version__}")
@@ -505,6 +582,9 @@ def main():
         tests.test("files of gsd.fl, read by ours", 60, tests.real_file)
         tests.test("ours, grown by gsd.fl", 60, tests.real_grows_ours)
         tests.test("files of gsd.fl, grown by ours", 60, tests.ours_grows_real)
+        tests.test("files of gsd.fl with gaps, read and grown by ours", 60, tests.real_file_with_gaps)
+        tests.test("ours with gaps, grown by both", 60, tests.both_grow_gaps)
+        tests.test("a frame not below the slots, corrupt for gsd.fl and gsd.pygsd", 1, tests.far_frame)
         listed = first_lines(os.path.join(files, "stdout"))
         for name in stored_files(os.path.join(files, "data")):
             stored, first = os.path.join(files, "data", name), listed[name]

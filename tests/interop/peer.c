@@ -7,7 +7,8 @@
  *                                            "name HEX" for each name and for each entry
  *                                            "entry frame N location M id type flags start length",
  *                                            start and length as the chunk is handed out, then its
- *                                            elements as kind:bits
+ *                                            elements as kind:bits; status 1 where a lookup finds
+ *                                            another entry, or a chunk that no entry tells of
  */
 #include "dialmoth.h"
 
@@ -84,19 +85,49 @@ static int append(const char *path, const char *sheet_path, uint64_t limit)
     return 0;
 }
 
+/* Whether the lookups of a name find no other chunk than the entries tell of: in their frames, in the
+ * frame before each that has none, and in the one behind all. It adds up the chunks found. It goes by the
+ * entries, for two of them can lie four milliards of frames apart. */
+static int finds_no_more(struct bytes image, const uint64_t counts[3], const uint64_t name[2],
+                         uint64_t *chunks)
+{
+    const uint8_t *start = image.start + name[0];
+    uint64_t entry[DIALMOTH_ENTRY_FIELDS], found[DIALMOTH_ENTRY_FIELDS], last = UINT64_MAX, n;
+
+    for (n = 0; n < counts[2]; n++) {
+        uint64_t frame, refused;
+
+        if (dialmoth_entry(image.start, image.length, n, entry) != 0)
+            return 0;
+        frame = entry[DIALMOTH_ENTRY_FRAME];
+        if (frame == last)
+            continue;
+        if (frame != 0 && frame - 1 != last
+            && dialmoth_lookup(image.start, image.length, frame - 1, start, name[1], found) != 42)
+            return 0;
+        refused = dialmoth_lookup(image.start, image.length, frame, start, name[1], found);
+        if (refused != 0 && refused != 42)
+            return 0;
+        *chunks += refused == 0;
+        last = frame;
+    }
+    return dialmoth_lookup(image.start, image.length, counts[0], start, name[1], found) == 40;
+}
+
 static int list(const char *path)
 {
     struct bytes image = load(path);
     uint64_t counts[3], place[2], entry[DIALMOTH_ENTRY_FIELDS], found[DIALMOTH_ENTRY_FIELDS];
     uint64_t refused = dialmoth_open(image.start, image.length, counts);
-    uint64_t n, k;
+    uint64_t n, k, chunks = 0;
 
     printf("%" PRIu64 "\n", refused);
     if (refused != 0)
         return 0;
     printf("%" PRIu64 " %" PRIu64 " %" PRIu64 "\n", counts[0], counts[1], counts[2]);
     for (n = 0; n < counts[1]; n++) {
-        if (dialmoth_name(image.start, image.length, n, place) != 0)
+        if (dialmoth_name(image.start, image.length, n, place) != 0
+            || !finds_no_more(image, counts, place, &chunks))
             return 1;
         printf("name ");
         for (k = 0; k < place[1]; k++)
@@ -134,7 +165,7 @@ static int list(const char *path)
         }
         printf("\n");
     }
-    return 0;
+    return chunks == counts[2] ? 0 : 1;
 }
 
 int main(int count, char **words)

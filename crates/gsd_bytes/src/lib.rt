@@ -139,8 +139,8 @@ pub fn put_text(s: &mut [u8], at: usize, t: &[u8])
     }
 }
 
-// The format's numbers: the bytes of the header, of a slot of the index and of a segment of the name list; the most names, and
-// the bytes of the longest image; GSD 2.0 and 2.1.
+// The format's numbers: the bytes of the header, of a slot of the index and of a segment of the name list; the most names, the
+// greatest number of a frame, and the bytes of the longest image; GSD 2.0 and 2.1.
 pub const HEADER_SIZE: u64 = 256;
 
 pub const SLOT_SIZE: u64 = 32;
@@ -148,6 +148,8 @@ pub const SLOT_SIZE: u64 = 32;
 pub const SEGMENT_SIZE: u64 = 64;
 
 pub const MOST_NAMES: usize = 1024;
+
+pub const GREATEST_FRAME: u64 = 4294967294;
 
 pub const GREATEST_LENGTH: usize = 1073741824;
 

@@ -258,6 +258,12 @@ frames-last top (e ∷ []) (suc i) h = absurd (omega arith)
 frames-last top (e ∷ c ∷ es) zero h = absurd (omega arith)
 frames-last top (e ∷ c ∷ es) (suc i) h = frames-last (e .frame + 1) (c ∷ es) i (omega arith)
 
+-- where no entry's frame is above most
+pub frames-most : (es : List Entry) (top most : ℕ) → top ≤ most + 1 → ((i : ℕ) → i < length es → getD es i none .frame ≤ most) → framesFrom top es ≤ most + 1
+unfolding framesFrom
+frames-most [] top most l h = l
+frames-most (e ∷ es) top most l h = frames-most es (e .frame + 1) most (omega (arith, h 0 (omega arith))) (λ i u. h (suc i) (omega arith))
+
 -- with entries behind it the old number of frames does not matter
 pub frames-grown : (top bottom : ℕ) (es more : List Entry) → 0 < length more → framesFrom top (es ++ more) ≡ framesFrom bottom more
 unfolding framesFrom
@@ -274,62 +280,62 @@ module _ (frame id frame′ id′ : ℕ) where
   pub lower-id : frame ≡ frame′ → ltb id id′ ≡ ltb (keyOf frame id) (keyOf frame′ id′)
   lower-id e = same-test id id′ (keyOf frame id) (keyOf frame′ id′) (λ h. omega arith) (λ h. omega arith)
 
--- what the order's tests say from entry to entry: keys rise, from at least `least`; a frame is at most one above the frame before it, the first at most top
-abbrev pub Ordered : ℕ → ℕ → List Entry → Type 0
-Ordered least top [] = Unit
-Ordered least top (e ∷ es) = (least ≤ key e) × (e .frame ≤ top) × Ordered (key e + 1) (e .frame + 1) es
+-- what the order's test says from entry to entry: keys rise, from at least `least`
+abbrev pub Ordered : ℕ → List Entry → Type 0
+Ordered least [] = Unit
+Ordered least (e ∷ es) = (least ≤ key e) × Ordered (key e + 1) es
 
 -- ids of 16 bits: then keys are ordered by frame first
 abbrev pub ShortIds : List Entry → Type 0
 ShortIds es = (i : ℕ) → i < length es → getD es i none .id < 65536
 
-pub ordered-least : (es : List Entry) (least top : ℕ) → Ordered least top es → (i : ℕ) → i < length es → least ≤ key (getD es i none)
-ordered-least [] least top h i l = absurd (omega arith)
-ordered-least (e ∷ es) least top h zero l = h .0
-ordered-least (e ∷ es) least top h (suc i) l = omega (arith, h .0, ordered-least es (key e + 1) (e .frame + 1) (h .2) i (omega arith))
+pub ordered-least : (es : List Entry) (least : ℕ) → Ordered least es → (i : ℕ) → i < length es → least ≤ key (getD es i none)
+ordered-least [] least h i l = absurd (omega arith)
+ordered-least (e ∷ es) least h zero l = h .0
+ordered-least (e ∷ es) least h (suc i) l = omega (arith, h .0, ordered-least es (key e + 1) (h .1) i (omega arith))
 
-pub keys-rise : (es : List Entry) (least top : ℕ) → Ordered least top es → (i j : ℕ) → i < j → j < length es → key (getD es i none) < key (getD es j none)
-keys-rise [] least top h i j l u = absurd (omega arith)
-keys-rise (e ∷ es) least top h i zero l u = absurd (omega arith)
-keys-rise (e ∷ es) least top h zero (suc j) l u = omega (arith, ordered-least es (key e + 1) (e .frame + 1) (h .2) j (omega arith))
-keys-rise (e ∷ es) least top h (suc i) (suc j) l u = keys-rise es (key e + 1) (e .frame + 1) (h .2) i j (omega arith) (omega arith)
+pub keys-rise : (es : List Entry) (least : ℕ) → Ordered least es → (i j : ℕ) → i < j → j < length es → key (getD es i none) < key (getD es j none)
+keys-rise [] least h i j l u = absurd (omega arith)
+keys-rise (e ∷ es) least h i zero l u = absurd (omega arith)
+keys-rise (e ∷ es) least h zero (suc j) l u = omega (arith, ordered-least es (key e + 1) (h .1) j (omega arith))
+keys-rise (e ∷ es) least h (suc i) (suc j) l u = keys-rise es (key e + 1) (h .1) i j (omega arith) (omega arith)
 
 -- a frame and an id stand at one place at most
-pub one-place : (es : List Entry) (least top : ℕ) → Ordered least top es → (i j : ℕ) → i < length es → j < length es →
+pub one-place : (es : List Entry) (least : ℕ) → Ordered least es → (i j : ℕ) → i < length es → j < length es →
     getD es i none .frame ≡ getD es j none .frame → getD es i none .id ≡ getD es j none .id → i ≡ j
-one-place es least top h i j l u f d = go (decLt i j) (decLt j i)
+one-place es least h i j l u f d = go (decLt i j) (decLt j i)
   where
     go : Dec (i < j) → Dec (j < i) → i ≡ j
-    go (yes a) b = absurd (omega (arith, keys-rise es least top h i j a u))
-    go (no a) (yes b) = absurd (omega (arith, keys-rise es least top h j i b l))
+    go (yes a) b = absurd (omega (arith, keys-rise es least h i j a u))
+    go (no a) (yes b) = absurd (omega (arith, keys-rise es least h j i b l))
     go (no a) (no b) = omega arith
 
 -- frames never decrease
-pub frames-rise : (es : List Entry) (least top : ℕ) → Ordered least top es → ShortIds es → (i j : ℕ) → i ≤ j → j < length es →
+pub frames-rise : (es : List Entry) (least : ℕ) → Ordered least es → ShortIds es → (i j : ℕ) → i ≤ j → j < length es →
     getD es i none .frame ≤ getD es j none .frame
-frames-rise es least top h s i j l u = go (decLt i j)
+frames-rise es least h s i j l u = go (decLt i j)
   where
     go : Dec (i < j) → getD es i none .frame ≤ getD es j none .frame
-    go (yes a) = omega (arith, keys-rise es least top h i j a u, s j u)
+    go (yes a) = omega (arith, keys-rise es least h i j a u, s j u)
     go (no a) = let e : i ≡ j = omega arith in rw e (omega arith)
 
 -- every frame is below the number of frames
-pub frames-below : (es : List Entry) (least top : ℕ) → Ordered least top es → ShortIds es → (i : ℕ) → i < length es → getD es i none .frame < framesFrom top es
+pub frames-below : (es : List Entry) (least top : ℕ) → Ordered least es → ShortIds es → (i : ℕ) → i < length es → getD es i none .frame < framesFrom top es
 frames-below es least top h s i l =
-    omega (arith, frames-rise es least top h s i (length es - 1) (omega arith) (omega arith), frames-last top es (length es - 1) (omega arith))
+    omega (arith, frames-rise es least h s i (length es - 1) (omega arith) (omega arith), frames-last top es (length es - 1) (omega arith))
 
-pub ordered-weaker : (es : List Entry) (least top low high : ℕ) → low ≤ least → top ≤ high → Ordered least top es → Ordered low high es
-ordered-weaker [] least top low high l u h = tt
-ordered-weaker (e ∷ es) least top low high l u h = (omega (arith, h .0), omega (arith, h .1), h .2)
+pub ordered-weaker : (es : List Entry) (least low : ℕ) → low ≤ least → Ordered least es → Ordered low es
+ordered-weaker [] least low l h = tt
+ordered-weaker (e ∷ es) least low l h = (omega (arith, h .0), h .1)
 
 -- a list behind another, where the frames of the first end
-pub ordered-append : (es more : List Entry) (least top : ℕ) → Ordered least top es → ShortIds es → least ≤ 65536 * top →
-    Ordered (65536 * framesFrom top es) (framesFrom top es) more → Ordered least top (es ++ more)
+pub ordered-append : (es more : List Entry) (least top : ℕ) → Ordered least es → ShortIds es → least ≤ 65536 * top →
+    Ordered (65536 * framesFrom top es) more → Ordered least (es ++ more)
 unfolding framesFrom
-ordered-append [] more least top h s d g = ordered-weaker more (65536 * top) top least top d (omega arith) g
+ordered-append [] more least top h s d g = ordered-weaker more (65536 * top) least d g
 ordered-append (e ∷ es) more least top h s d g =
-    (h .0, h .1, ordered-append es more (key e + 1) (e .frame + 1) (h .2) (λ i l. s (suc i) (omega arith)) (omega (arith, s 0 (omega arith))) g)
+    (h .0, ordered-append es more (key e + 1) (e .frame + 1) (h .1) (λ i l. s (suc i) (omega arith)) (omega (arith, s 0 (omega arith))) g)
 
-pub ordered-front : (es more : List Entry) (least top : ℕ) → Ordered least top (es ++ more) → Ordered least top es
-ordered-front [] more least top h = tt
-ordered-front (e ∷ es) more least top h = (h .0, h .1, ordered-front es more (key e + 1) (e .frame + 1) (h .2))
+pub ordered-front : (es more : List Entry) (least : ℕ) → Ordered least (es ++ more) → Ordered least es
+ordered-front [] more least h = tt
+ordered-front (e ∷ es) more least h = (h .0, ordered-front es more (key e + 1) (h .1))

@@ -121,10 +121,10 @@ find-any frame id es e s one = go (find-is frame id es) refl
     go (found t) h = h ∙ ap Listed.Found (sym (t .there) ∙ one (t .place) (t .within) (stands-frame t) (stands-id t))
     go (missing m) h = absurd (m (s .place) (s .within) (stands-frame s) (stands-id s))
 
-pub find-ordered : (frame id : ℕ) (es : List Entry) (least top : ℕ) → Ordered least top es → (e : Entry) → Stands es frame id e →
+pub find-ordered : (frame id : ℕ) (es : List Entry) (least : ℕ) → Ordered least es → (e : Entry) → Stands es frame id e →
     findEntry frame id es ≡ Listed.Found e
-find-ordered frame id es least top h e s = find-any frame id es e s (λ i l f d.
-    ap (λ j. getD es j none) (one-place es least top h i (s .place) l (s .within) (f ∙ sym (stands-frame s)) (d ∙ sym (stands-id s))) ∙ s .there)
+find-ordered frame id es least h e s = find-any frame id es e s (λ i l f d.
+    ap (λ j. getD es j none) (one-place es least h i (s .place) l (s .within) (f ∙ sym (stands-frame s)) (d ∙ sym (stands-id s))) ∙ s .there)
 
 -- Entries behind a list
 

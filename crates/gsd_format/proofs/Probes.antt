@@ -95,7 +95,7 @@ module _ (img : List ℕ) (frame : ℕ) (name : List ℕ) where
   among : (i : ℕ) → searchTest img frame name ≡ 0 → Has i (probed frame id (entriesOf img)) → Among i (probesOf img frame name)
   among i z h = rw (probes-some z) (any-at (λ j. j ≡ i) (probed frame id (entriesOf img)) 0 h)
 
-  ordered : searchTest img frame name ≡ 0 → Ordered 0 0 (entriesOf img)
+  ordered : searchTest img frame name ≡ 0 → Ordered 0 (entriesOf img)
   ordered z = verdict-zero img .0 (search-zero .0 z .0) .ordered
 
   pub probes : Probes img frame name

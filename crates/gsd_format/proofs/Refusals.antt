@@ -23,6 +23,11 @@ unfolding _▹_
 first-of zero b h = refl
 first-of (suc a) b h = absurd (omega (arith, h))
 
+pub last-of : (a b : ℕ) → b ≡ 0 → a ▹ b ≡ a
+unfolding _▹_
+last-of zero b h = h
+last-of (suc a) b h = refl
+
 pub stays : (a b : ℕ) → (a ≡ 0 → ⊥) → a ▹ b ≡ a
 unfolding _▹_
 stays zero b h = absurd (h refl)
@@ -91,14 +96,6 @@ both-true false b h = absurd (true≢false (sym h))
 pub both-of : (a b : Bool) → a ≡ true → b ≡ true → (a && b) ≡ true
 both-of true b h g = g
 both-of false b h g = h
-
-pub left-decides : (a b : Bool) → b ≡ true → (a && b) ≡ a
-left-decides true b h = h
-left-decides false b h = refl
-
-pub right-fails : (a b : Bool) → b ≡ false → (a && b) ≡ false
-right-fails true b h = h
-right-fails false b h = refl
 
 pub not-of : (t : Bool) → t ≡ true → not t ≡ false
 not-of true h = refl

@@ -211,12 +211,12 @@ module _ (frame id : ℕ) (es : List Entry) where
   searched-there l = rw (lt-ltb place (length es) l, searched)
 
   -- in a list in order
-  module _ (ordered : Ordered 0 0 es) where
+  module _ (ordered : Ordered 0 es) where
     rise : (i j : ℕ) → i ≤ j → j < length es → key (getD es i none) ≤ key (getD es j none)
     rise i j l u = go (decLt i j)
       where
         go : Dec (i < j) → key (getD es i none) ≤ key (getD es j none)
-        go (yes a) = omega (arith, keys-rise es 0 0 ordered i j a u)
+        go (yes a) = omega (arith, keys-rise es 0 ordered i j a u)
         go (no a) = let q : i ≡ j = omega arith in rw q (omega arith)
 
     -- the entries before the place are below the frame and the id, those from it on are not
@@ -232,7 +232,7 @@ module _ (frame id : ℕ) (es : List Entry) where
       where
         go : Dec (i < place) → Dec (place < i) → i ≡ place
         go (yes a) b = absurd (omega (arith, place-before i a))
-        go (no a) (yes b) = absurd (omega (arith, place-behind place (omega arith) (omega arith), keys-rise es 0 0 ordered place i b l))
+        go (no a) (yes b) = absurd (omega (arith, place-behind place (omega arith) (omega arith), keys-rise es 0 ordered place i b l))
         go (no a) (no b) = omega arith
 
     -- so the search finds what the list has

@@ -7,7 +7,7 @@ use mathlib.Core.List.{List, [], _∷_}
 use native.Mathlib.Omega.{arith}
 use lib.ListN.{length, getD, take, length-take}
 use lib.Seq.{getD-take, ext-getD}
-use borrow.Author.Tests.{ltb-false, leb-true, leb-false, not-false, le-ltb, le-leb, lt-leb}
+use borrow.Author.Tests.{ltb-false, leb-false, not-false, le-ltb, lt-leb}
 use Rattle.gsd_format.specs.declared.Entry.{Entry}
 use Rattle.gsd_format.specs.declared.Layout.{Layout}
 use Rattle.gsd_format.specs.declared.Opening.{Opening}
@@ -17,9 +17,9 @@ use Rattle.gsd_format.specs.Types.{known, chunkSize}
 use Rattle.gsd_format.specs.Header.{magic, supported, headerSize, leastLength, greatestLength, versionOf, layoutOf}
 use Rattle.gsd_format.specs.Names.{namesOf}
 use Rattle.gsd_format.specs.Entries.{entriesOf, key}
-use Rattle.gsd_format.specs.Opening.{headerTest, blocksTest, Blocks, namesTest, entryTest, entriesTest, verdict, countsOf, opening}
+use Rattle.gsd_format.specs.Opening.{headerTest, blocksTest, Blocks, namesTest, greatestFrame, entryTest, entriesTest, verdict, countsOf, opening}
 use Rattle.gsd_format.specs.Lookup.{none}
-use Rattle.gsd_format.proofs.Refusals.{both, none-of, unmet, passed, neither, neither-of, both-true, both-of, not-of}
+use Rattle.gsd_format.proofs.Refusals.{both, none-of, unmet, passed, neither, neither-of, not-of}
 use Rattle.gsd_format.proofs.Refusals.{not-less, less-no, first-most, test-most}
 use Rattle.gsd_format.proofs.Bytes.{Same, same-from, le-same, same-eq, eq-same, zeroIn-same, meets-apart, apart-meets}
 use Rattle.gsd_format.proofs.Entries.{Ordered, ShortIds}
@@ -84,7 +84,7 @@ blocks-zero l = (to, from)
         (none-of _ _ (passed _ _ (neither-of _ _ (le-ltb _ _ (b .namelistLow)) (le-ltb _ _ (b .namelistHigh))))
         (passed _ _ (apart-meets _ _ _ _ (b .apart))))
 
--- 12 to 17 but for the order: the entry alone, with so many names
+-- 12 to 18 but for the order: the entry alone, with so many names
 pub record Sound (l : Layout) (names : ℕ) (e : Entry) : Type 0 where
   pub low : headerSize ≤ e .location
   pub high : e .location < 2 ^ 63
@@ -93,21 +93,22 @@ pub record Sound (l : Layout) (names : ℕ) (e : Entry) : Type 0 where
   pub within : e .location + chunkSize e ≤ l .len
   pub offIndex : Apart (e .location) (chunkSize e) (l .index) (32 * l .slots)
   pub offNames : Apart (e .location) (chunkSize e) (l .namelist) (64 * l .segments)
+  pub early : e .frame ≤ greatestFrame
 
-pub entry-zero : (l : Layout) (names least top : ℕ) (e : Entry) → entryTest l names least top e ≡ 0 ↔ Sound l names e × (least ≤ key e) × (e .frame ≤ top)
+pub entry-zero : (l : Layout) (names least : ℕ) (e : Entry) → entryTest l names least e ≡ 0 ↔ Sound l names e × (least ≤ key e)
 unfolding entryTest
-entry-zero l names least top e = (to, from)
+entry-zero l names least e = (to, from)
   where
-    to : entryTest l names least top e ≡ 0 → Sound l names e × (least ≤ key e) × (e .frame ≤ top)
+    to : entryTest l names least e ≡ 0 → Sound l names e × (least ≤ key e)
     to h =
         let a = both _ _ h in
         let b = both _ _ (a .1) in
         let c = both _ _ (b .1) in
         let d = both _ _ (c .1) in
         let f = both _ _ (d .1) in
+        let g = both _ _ (f .1) in
         let place = neither _ _ (unmet _ _ (a .0)) in
-        let order = both-true _ _ (not-false _ (unmet _ _ (d .0))) in
-        let off = neither _ _ (unmet _ _ (f .1)) in (
+        let off = neither _ _ (unmet _ _ (g .0)) in (
           record {
             low = ltb-false _ _ (place .0);
             high = leb-false _ _ (place .1);
@@ -116,41 +117,41 @@ entry-zero l names least top e = (to, from)
             within = not-less _ _ _ (f .0);
             offIndex = meets-apart _ _ _ _ (off .0);
             offNames = meets-apart _ _ _ _ (off .1);
+            early = not-less _ _ _ (g .1);
           },
-          leb-true _ _ (order .0),
-          leb-true _ _ (order .1),
+          not-less _ _ _ (d .0),
         )
 
-    from : Sound l names e × (least ≤ key e) × (e .frame ≤ top) → entryTest l names least top e ≡ 0
-    from (s, a, b) =
+    from : Sound l names e × (least ≤ key e) → entryTest l names least e ≡ 0
+    from (s, a) =
         none-of _ _ (passed _ _ (neither-of _ _ (le-ltb _ _ (s .low)) (lt-leb _ _ (s .high))))
         (none-of _ _ (passed _ _ (not-of _ (s .typed)))
         (none-of _ _ (passed _ _ (lt-leb _ _ (s .named)))
-        (none-of _ _ (passed _ _ (not-of _ (both-of _ _ (le-leb _ _ a) (le-leb _ _ b))))
+        (none-of _ _ (less-no _ _ _ a)
         (none-of _ _ (less-no _ _ _ (s .within))
-        (passed _ _ (neither-of _ _ (apart-meets _ _ _ _ (s .offIndex)) (apart-meets _ _ _ _ (s .offNames))))))))
+        (none-of _ _ (passed _ _ (neither-of _ _ (apart-meets _ _ _ _ (s .offIndex)) (apart-meets _ _ _ _ (s .offNames))))
+        (less-no _ _ _ (s .early)))))))
 
--- 12 to 17: every entry is sound, and they are in order
+-- 12 to 18: every entry is sound, and they are in order
 abbrev pub AllSound : Layout → ℕ → List Entry → Type 0
 AllSound l names es = (i : ℕ) → i < length es → Sound l names (getD es i none)
 
-pub entries-zero : (es : List Entry) (l : Layout) (names least top : ℕ) → entriesTest l names least top es ≡ 0 ↔ AllSound l names es × Ordered least top es
+pub entries-zero : (es : List Entry) (l : Layout) (names least : ℕ) → entriesTest l names least es ≡ 0 ↔ AllSound l names es × Ordered least es
 unfolding entriesTest
-entries-zero [] l names least top = (λ h. (λ i u. absurd (omega arith), tt), λ p. refl)
-entries-zero (e ∷ es) l names least top =
-    (to (entries-zero es l names (key e + 1) (e .frame + 1) .0), from (entries-zero es l names (key e + 1) (e .frame + 1) .1))
+entries-zero [] l names least = (λ h. (λ i u. absurd (omega arith), tt), λ p. refl)
+entries-zero (e ∷ es) l names least = (to (entries-zero es l names (key e + 1) .0), from (entries-zero es l names (key e + 1) .1))
   where
-    to : (entriesTest l names (key e + 1) (e .frame + 1) es ≡ 0 → AllSound l names es × Ordered (key e + 1) (e .frame + 1) es) →
-        entriesTest l names least top (e ∷ es) ≡ 0 → AllSound l names (e ∷ es) × Ordered least top (e ∷ es)
+    to : (entriesTest l names (key e + 1) es ≡ 0 → AllSound l names es × Ordered (key e + 1) es) →
+        entriesTest l names least (e ∷ es) ≡ 0 → AllSound l names (e ∷ es) × Ordered least (e ∷ es)
     to r h =
         let p = both _ _ h in
-        let a = entry-zero l names least top e .0 (p .0) in
+        let a = entry-zero l names least e .0 (p .0) in
         let b = r (p .1) in
-        (elim [ zero ↦ λ u. a .0 | suc i ↦ λ u. b .0 i (omega arith) ], (a .1, a .2, b .1))
+        (elim [ zero ↦ λ u. a .0 | suc i ↦ λ u. b .0 i (omega arith) ], (a .1, b .1))
 
-    from : (AllSound l names es × Ordered (key e + 1) (e .frame + 1) es → entriesTest l names (key e + 1) (e .frame + 1) es ≡ 0) →
-        AllSound l names (e ∷ es) × Ordered least top (e ∷ es) → entriesTest l names least top (e ∷ es) ≡ 0
-    from r (s, o) = none-of _ _ (entry-zero l names least top e .1 (s 0 (omega arith), o .0, o .1)) (r (λ i u. s (suc i) (omega arith), o .2))
+    from : (AllSound l names es × Ordered (key e + 1) es → entriesTest l names (key e + 1) es ≡ 0) →
+        AllSound l names (e ∷ es) × Ordered least (e ∷ es) → entriesTest l names least (e ∷ es) ≡ 0
+    from r (s, o) = none-of _ _ (entry-zero l names least e .1 (s 0 (omega arith), o .0)) (r (λ i u. s (suc i) (omega arith), o .1))
 
 -- ids that are places of names are of 16 bits
 pub sound-ids : (es : List Entry) (l : Layout) (names : ℕ) → names ≤ 65536 → AllSound l names es → ShortIds es
@@ -159,12 +160,12 @@ sound-ids es l names h s i u = omega (arith, s i u .named)
 -- the verdict is 0 exactly when each part's number is
 pub verdict-parts : (x : List ℕ) → verdict x ≡ 0 ↔
     (headerTest x ≡ 0) × (blocksTest (layoutOf x) ≡ 0) × (namesTest x (layoutOf x) (namesOf x) ≡ 0) ×
-    (entriesTest (layoutOf x) (length (namesOf x)) 0 0 (entriesOf x) ≡ 0)
+    (entriesTest (layoutOf x) (length (namesOf x)) 0 (entriesOf x) ≡ 0)
 unfolding verdict
 verdict-parts x = (to, λ p. none-of _ _ (p .0) (none-of _ _ (p .1) (none-of _ _ (p .2) (p .3))))
   where
     to : verdict x ≡ 0 → (headerTest x ≡ 0) × (blocksTest (layoutOf x) ≡ 0) × (namesTest x (layoutOf x) (namesOf x) ≡ 0) ×
-        (entriesTest (layoutOf x) (length (namesOf x)) 0 0 (entriesOf x) ≡ 0)
+        (entriesTest (layoutOf x) (length (namesOf x)) 0 (entriesOf x) ≡ 0)
     to h =
         let a = both _ _ h in
         let b = both _ _ (a .1) in
@@ -177,7 +178,7 @@ pub record Opens (x : List ℕ) : Type 0 where
   pub blocks : Blocks (layoutOf x)
   pub names : namesTest x (layoutOf x) (namesOf x) ≡ 0
   pub sound : AllSound (layoutOf x) (length (namesOf x)) (entriesOf x)
-  pub ordered : Ordered 0 0 (entriesOf x)
+  pub ordered : Ordered 0 (entriesOf x)
 
 pub verdict-zero : (x : List ℕ) → verdict x ≡ 0 ↔ Opens x
 verdict-zero x = (to, from)
@@ -185,7 +186,7 @@ verdict-zero x = (to, from)
     to : verdict x ≡ 0 → Opens x
     to h =
         let p = verdict-parts x .0 h in
-        let e = entries-zero (entriesOf x) (layoutOf x) (length (namesOf x)) 0 0 .0 (p .3) in
+        let e = entries-zero (entriesOf x) (layoutOf x) (length (namesOf x)) 0 .0 (p .3) in
         record { front = header-zero x .0 (p .0); blocks = blocks-zero (layoutOf x) .0 (p .1); names = p .2; sound = e .0; ordered = e .1 }
 
     from : Opens x → verdict x ≡ 0
@@ -193,29 +194,29 @@ verdict-zero x = (to, from)
       header-zero x .1 (o .front),
       blocks-zero (layoutOf x) .1 (o .blocks),
       o .names,
-      entries-zero (entriesOf x) (layoutOf x) (length (namesOf x)) 0 0 .1 (o .sound, o .ordered),
+      entries-zero (entriesOf x) (layoutOf x) (length (namesOf x)) 0 .1 (o .sound, o .ordered),
     )
 
--- no number of opening is above 17
-then : (t : Bool) (n b : ℕ) → n ≤ 17 → b ≤ 17 → ((t ⇒ n) ▹ b) ≤ 17
-then t n b h g = first-most 17 (t ⇒ n) b (test-most 17 t n h) g
+-- no number of opening is above 18
+then : (t : Bool) (n b : ℕ) → n ≤ 18 → b ≤ 18 → ((t ⇒ n) ▹ b) ≤ 18
+then t n b h g = first-most 18 (t ⇒ n) b (test-most 18 t n h) g
 
-entries-most : (es : List Entry) (l : Layout) (names least top : ℕ) → entriesTest l names least top es ≤ 17
+entries-most : (es : List Entry) (l : Layout) (names least : ℕ) → entriesTest l names least es ≤ 18
 unfolding entriesTest entryTest
-entries-most [] l names least top = omega arith
-entries-most (e ∷ es) l names least top = first-most 17 _ _
+entries-most [] l names least = omega arith
+entries-most (e ∷ es) l names least = first-most 18 _ _
     (then _ 12 _ (omega arith) (then _ 13 _ (omega arith) (then _ 14 _ (omega arith) (then _ 15 _ (omega arith)
-    (then _ 16 _ (omega arith) (test-most 17 _ 17 (omega arith)))))))
-    (entries-most es l names (key e + 1) (e .frame + 1))
+    (then _ 16 _ (omega arith) (then _ 17 _ (omega arith) (test-most 18 _ 18 (omega arith))))))))
+    (entries-most es l names (key e + 1))
 
-pub verdict-most : (x : List ℕ) → verdict x ≤ 17
+pub verdict-most : (x : List ℕ) → verdict x ≤ 18
 unfolding verdict headerTest blocksTest namesTest
 verdict-most x =
-    first-most 17 _ _
-    (then _ 1 _ (omega arith) (then _ 2 _ (omega arith) (then _ 3 _ (omega arith) (then _ 4 _ (omega arith) (test-most 17 _ 5 (omega arith))))))
-    (first-most 17 _ _ (then _ 6 _ (omega arith) (then _ 7 _ (omega arith) (test-most 17 _ 8 (omega arith))))
-    (first-most 17 _ _ (then _ 9 _ (omega arith) (then _ 10 _ (omega arith) (test-most 17 _ 11 (omega arith))))
-    (entries-most (entriesOf x) (layoutOf x) (length (namesOf x)) 0 0)))
+    first-most 18 _ _
+    (then _ 1 _ (omega arith) (then _ 2 _ (omega arith) (then _ 3 _ (omega arith) (then _ 4 _ (omega arith) (test-most 18 _ 5 (omega arith))))))
+    (first-most 18 _ _ (then _ 6 _ (omega arith) (then _ 7 _ (omega arith) (test-most 18 _ 8 (omega arith))))
+    (first-most 18 _ _ (then _ 9 _ (omega arith) (then _ 10 _ (omega arith) (test-most 18 _ 11 (omega arith))))
+    (entries-most (entriesOf x) (layoutOf x) (length (namesOf x)) 0)))
 
 -- the answer
 pub opening-open : (x : List ℕ) → verdict x ≡ 0 → opening x ≡ Opening.Open (countsOf x)

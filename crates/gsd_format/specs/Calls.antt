@@ -22,7 +22,7 @@ unfoldable pub unless : ℕ → List ℕ → List ℕ
 unless zero values = values
 unless (suc n) values = []
 
--- opening: 1 to 17; the counts of frames, names and entries
+-- opening: 1 to 18; the counts of frames, names and entries
 abbrev pub openValues : List ℕ → List ℕ
 openValues img = unless (verdict img) (framesOf (entriesOf img) ∷ length (namesOf img) ∷ length (entriesOf img) ∷ [])
 

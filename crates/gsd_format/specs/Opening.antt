@@ -1,4 +1,4 @@
--- Opening: the tests of numbers 1 to 17 in their order, and the counts answered where none applies.
+-- Opening: the tests of numbers 1 to 18 in their order, and the counts answered where none applies.
 use Prim.Native.Nat.{ℕ, zero, suc, _+_, _*_, _^_, _≤_}
 use mathlib.Core.List.{List, [], _∷_}
 use mathlib.Core.Bool.{Bool, false, not, _&&_, _||_}
@@ -57,29 +57,30 @@ twins (n ∷ ns) = ltb (indexOf n ns) (length ns) || twins ns
 unfoldable pub namesTest : List ℕ → Layout → List (List ℕ) → ℕ
 namesTest img l names = (unclosed img l names ⇒ 9) ▹ (ltb mostNames (length names) ⇒ 10) ▹ (twins names ⇒ 11)
 
--- a listed entry follows one whose key is below least and whose frame is top - 1; both are 0 for the first entry
-abbrev pub follows : ℕ → ℕ → Entry → Bool
-follows least top e = leb least (key e) && leb (e .frame) top
-
 -- a location from here on is negative: it is a signed number of 64 bits
 abbrev pub negative : ℕ
 negative = 2 ^ 63
 
--- 12 to 17 for one entry, with so many names
-unfoldable pub entryTest : Layout → ℕ → ℕ → ℕ → Entry → ℕ
-entryTest l names least top e =
+-- the greatest number of a frame: so the count of frames fits 32 bits
+abbrev pub greatestFrame : ℕ
+greatestFrame = 4294967294
+
+-- 12 to 18 for one entry, with so many names; its key is at least `least`, one above that of the entry before or 0 for the first
+unfoldable pub entryTest : Layout → ℕ → ℕ → Entry → ℕ
+entryTest l names least e =
     (ltb (e .location) headerSize || leb negative (e .location) ⇒ 12)
     ▹ (not (known (l .version) (e .kind)) ⇒ 13)
     ▹ (leb names (e .id) ⇒ 14)
-    ▹ (not (follows least top e) ⇒ 15)
+    ▹ (ltb (key e) least ⇒ 15)
     ▹ (ltb (l .len) (e .location + chunkSize e) ⇒ 16)
     ▹ (meets (e .location) (chunkSize e) (l .index) (slotSize * l .slots)
     || meets (e .location) (chunkSize e) (l .namelist) (segmentSize * l .segments) ⇒ 17)
+    ▹ (ltb greatestFrame (e .frame) ⇒ 18)
 
 -- entry by entry: the first bad one decides
-unfoldable pub entriesTest : Layout → ℕ → ℕ → ℕ → List Entry → ℕ
-entriesTest l names least top [] = 0
-entriesTest l names least top (e ∷ es) = entryTest l names least top e ▹ entriesTest l names (key e + 1) (e .frame + 1) es
+unfoldable pub entriesTest : Layout → ℕ → ℕ → List Entry → ℕ
+entriesTest l names least [] = 0
+entriesTest l names least (e ∷ es) = entryTest l names least e ▹ entriesTest l names (key e + 1) es
 
 -- the opening's number: the first test that applies
 unfoldable pub verdict : List ℕ → ℕ
@@ -87,7 +88,7 @@ verdict img =
     headerTest img
     ▹ blocksTest (layoutOf img)
     ▹ namesTest img (layoutOf img) (namesOf img)
-    ▹ entriesTest (layoutOf img) (length (namesOf img)) 0 0 (entriesOf img)
+    ▹ entriesTest (layoutOf img) (length (namesOf img)) 0 (entriesOf img)
 
 unfoldable pub countsOf : List ℕ → Counts
 countsOf img = record { frames = framesOf (entriesOf img); names = length (namesOf img); entries = length (entriesOf img) }

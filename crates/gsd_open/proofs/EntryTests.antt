@@ -1,4 +1,4 @@
--- Laws of one entry's tests, and the walk's ways out: a size that is capped, the chain in its two parts, the answer at a bad entry and at the end.
+-- Laws of one entry's tests, and the walk's ways out: a size that is capped, the chain in its four parts, the answer at a bad entry and at the end.
 use Prim.Native.Nat.{ℕ, _+_, _*_, _^_, _≤_, _<_, min}
 use mathlib.Core.Path.{_≡_, sym, _∙_, ap}
 use mathlib.Core.List.{List, [], _∷_}
@@ -10,12 +10,13 @@ use borrow.Author.Tests.{lt-ltb, leb-false}
 use Rattle.gsd_format.specs.declared.Entry.{Entry}
 use Rattle.gsd_format.specs.declared.Layout.{Layout}
 use Rattle.gsd_format.specs.Types.{chunkSize}
-use Rattle.gsd_format.specs.Refusals.{_▹_}
+use Rattle.gsd_format.specs.Refusals.{_⇒_, _▹_}
 use Rattle.gsd_format.specs.Header.{headerSize, greatestLength}
-use Rattle.gsd_format.specs.Opening.{entryTest}
+use Rattle.gsd_format.specs.Entries.{key}
+use Rattle.gsd_format.specs.Opening.{greatestFrame, entryTest}
 use Rattle.gsd_format.proofs.Refusals.{▹-assoc, decides, both, unmet, neither}
 use Rattle.gsd_format.proofs.Walk.{Walked, walked-all, walked-bad}
-use Rattle.gsd_open.specs.Index.{Capped, fieldsTest, roomTest, Walks}
+use Rattle.gsd_open.specs.Index.{keysEnd, framesTo, Capped, fieldsTest, roomTest, Walks}
 
 -- A size that is capped
 
@@ -71,30 +72,32 @@ room-capped l a whole r b c = go (decLt greatestLength whole)
 
 -- The chain
 
-pub entry-split : (l : Layout) (names least top : ℕ) (e : Entry) →
-    entryTest l names least top e ≡ fieldsTest (l .version) names least top e ▹ roomTest l (e .location) (chunkSize e)
+pub entry-split : (l : Layout) (names least : ℕ) (e : Entry) →
+    entryTest l names least e ≡
+    fieldsTest (l .version) names e ▹ (ltb (key e) least ⇒ 15) ▹ roomTest l (e .location) (chunkSize e) ▹ (ltb greatestFrame (e .frame) ⇒ 18)
 unfolding entryTest fieldsTest roomTest
-entry-split l names least top e = simp ▹-assoc
+entry-split l names least e = simp ▹-assoc
 
-pub fields-place : (version names least top : ℕ) (e : Entry) → fieldsTest version names least top e ≡ 0 → e .location < 2 ^ 63
+pub fields-place : (version names : ℕ) (e : Entry) → fieldsTest version names e ≡ 0 → e .location < 2 ^ 63
 unfolding fieldsTest
-fields-place version names least top e h = leb-false (2 ^ 63) (e .location) (neither (ltb (e .location) headerSize) _ (unmet _ 11 (both _ _ h .0)) .1)
+fields-place version names e h = leb-false (2 ^ 63) (e .location) (neither (ltb (e .location) headerSize) _ (unmet _ 11 (both _ _ h .0)) .1)
 
 -- The walk's two ways out
 
-pub walk-ends : (l : Layout) (names : ℕ) (all : List Entry) (least top end many : ℕ) (rest : List Entry) (number : ℕ) →
-    Walked l names all least top end many rest → rest ≡ [] → number ≡ 0 →
-    Walks l names all (record { number = number; entries = many; frames = top; «chunks_end» = end })
-walk-ends l names all least top end many rest number w z p =
-    let a = walked-all l names all least top end many rest w z in
-    record { number = p ∙ sym (a .0); entries = λ _. sym (a .1); frames = λ _. sym (a .2); chunks = λ _. sym (a .3) }
+pub walk-ends : (l : Layout) (names : ℕ) (all : List Entry) (least end many : ℕ) (rest : List Entry) (number : ℕ) → least ≤ keysEnd →
+    Walked l names all least (framesTo least) end many rest → rest ≡ [] → number ≡ 0 →
+    Walks l names all (record { number = number; entries = many; least = least; «chunks_end» = end })
+walk-ends l names all least end many rest number h w z p =
+    let a = walked-all l names all least (framesTo least) end many rest w z in
+    record { number = p ∙ sym (a .0); entries = λ _. sym (a .1); high = h; frames = λ _. sym (a .2); chunks = λ _. sym (a .3) }
 
-pub walk-refuses : (l : Layout) (names : ℕ) (all : List Entry) (least top end many : ℕ) (rest : List Entry) (e : Entry) (es : List Entry) (number : ℕ) →
-    Walked l names all least top end many rest → rest ≡ e ∷ es → number ≡ entryTest l names least top e → (number ≡ 0 → ⊥) →
-    Walks l names all (record { number = number; entries = many; frames = top; «chunks_end» = end })
-walk-refuses l names all least top end many rest e es number w q p n = record {
-  number = p ∙ sym (walked-bad l names all least top end many rest e es w q (λ z. n (p ∙ z)));
+pub walk-refuses : (l : Layout) (names : ℕ) (all : List Entry) (least end many : ℕ) (rest : List Entry) (e : Entry) (es : List Entry) (number : ℕ) →
+    least ≤ keysEnd → Walked l names all least (framesTo least) end many rest → rest ≡ e ∷ es → number ≡ entryTest l names least e → (number ≡ 0 → ⊥) →
+    Walks l names all (record { number = number; entries = many; least = least; «chunks_end» = end })
+walk-refuses l names all least end many rest e es number h w q p n = record {
+  number = p ∙ sym (walked-bad l names all least (framesTo least) end many rest e es w q (λ z. n (p ∙ z)));
   entries = λ z. absurd (n z);
+  high = h;
   frames = λ z. absurd (n z);
   chunks = λ z. absurd (n z);
 }

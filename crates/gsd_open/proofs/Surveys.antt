@@ -20,7 +20,7 @@ use Rattle.gsd_names.specs.NameLists.{partAt, namesIn, Spans, NamesFound}
 use Rattle.gsd_names.proofs.NameLists.{found-count, found-names, found-part}
 use Rattle.gsd_open.specs.declared.index.Walk.{Walk}
 use Rattle.gsd_open.specs.declared.survey.Survey.{Survey}
-use Rattle.gsd_open.specs.Index.{Walks}
+use Rattle.gsd_open.specs.Index.{framesTo, Walks}
 use Rattle.gsd_open.specs.Surveys.{Laid, Surveyed}
 
 -- a refusal says no more than its number
@@ -61,7 +61,7 @@ module _ (img : List ℕ) (l : Layout) (laid : Laid img l) where
   pub laid-blocks : Blocks l
   laid-blocks = blocks-zero l .0 (laid .blocks)
 
-  behind : verdict img ≡ namesTest img (layoutOf img) (namesOf img) ▹ entriesTest (layoutOf img) (length (namesOf img)) 0 0 (entriesOf img)
+  behind : verdict img ≡ namesTest img (layoutOf img) (namesOf img) ▹ entriesTest (layoutOf img) (length (namesOf img)) 0 (entriesOf img)
   unfolding verdict
   behind = first-of _ _ (laid .header) ∙ first-of _ _ (ap blocksTest (sym (laid .layout)) ∙ laid .blocks)
 
@@ -78,19 +78,19 @@ module _ (img : List ℕ) (l : Layout) (laid : Laid img l) where
 
   -- where no part refuses, the answer is what the walk says
   pub walked : (starts : List ℕ) (list : NameList) (w : Walk) → namesTest img l block ≡ 0 → NamesFound img (l .namelist) (64 * l .segments) starts list →
-      Walks l (list .count) (entriesAt img (l .index) (l .slots)) w →
-      Surveyed img starts (record { number = w .number; layout = l; names = list; entries = w .entries; frames = w .frames; «chunks_end» = w .«chunks_end» })
+      Walks l (list .count) (entriesAt img (l .index) (l .slots)) w → (frames : ℕ) → frames ≡ framesTo (w .least) →
+      Surveyed img starts (record { number = w .number; layout = l; names = list; entries = w .entries; frames = frames; «chunks_end» = w .«chunks_end» })
   unfolding entriesOf
-  walked starts list w good found walks =
+  walked starts list w good found walks frames framed =
       let es : entriesAt img (l .index) (l .slots) ≡ entriesOf img = λ i. entriesAt img (laid .layout i .index) (laid .layout i .slots) in
       let count : list .count ≡ length (namesOf img) = sym (found-count img _ _ starts list found) ∙ ap length block-names in
       record {
-        number = walks .number ∙ (λ i. entriesTest (laid .layout i) (count i) 0 0 (es i))
+        number = walks .number ∙ (λ i. entriesTest (laid .layout i) (count i) 0 (es i))
             ∙ sym (first-of _ _ ((λ i. namesTest img (sym (laid .layout) i) (sym block-names i)) ∙ good)) ∙ sym behind;
         layout = λ _. laid .layout;
         names = λ _. rw (laid .layout) at found;
         entries = λ z. walks .entries z ∙ ap length es;
-        frames = λ z. walks .frames z ∙ ap framesOf es;
+        frames = λ z. framed ∙ walks .frames z ∙ ap framesOf es;
         chunks = λ z. walks .chunks z ∙ ap chunksEnd es;
       }
 

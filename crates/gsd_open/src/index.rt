@@ -3,6 +3,7 @@ use crate::refusal::refuse;
 use crate::stretch::greater;
 use crate::stretch::lesser;
 use crate::stretch::share;
+use gsd_bytes::GREATEST_FRAME;
 use gsd_bytes::HEADER_SIZE;
 use gsd_bytes::SEGMENT_SIZE;
 use gsd_bytes::SLOT_SIZE;
@@ -17,10 +18,11 @@ ghost use mathlib.Core.Path.{_≡_};
 ghost use Prim.Native.Nat.{_+_, _*_, _^_, _≤_, _<_};
 ghost use lib.ListN.{length};
 ghost use Rattle.gsd_format.specs.Types.{sizeOf, chunkSize};
+ghost use Rattle.gsd_format.specs.Refusals.{_▹_};
 ghost use Rattle.gsd_format.specs.Header.{greatestLength};
-ghost use Rattle.gsd_format.specs.Entries.{entryAt, entriesAt, key};
-ghost use Rattle.gsd_format.specs.Opening.{follows, entryTest, Blocks};
-ghost use Rattle.gsd_open.specs.Index.{Capped, fieldsTest, roomTest, Walks};
+ghost use Rattle.gsd_format.specs.Entries.{entryAt, entriesAt, keyOf, key};
+ghost use Rattle.gsd_format.specs.Opening.{greatestFrame, entryTest, Blocks};
+ghost use Rattle.gsd_open.specs.Index.{keysEnd, framesTo, Capped, fieldsTest, roomTest, Walks};
 
 // A location from here on is negative: it is a signed number.
 const NEGATIVE: u64 = 9223372036854775808;
@@ -31,12 +33,12 @@ const ID_RANGE: u64 = 65536;
 // More bytes than the longest slice has.
 const BEYOND: u64 = 1073741825;
 
-// What the walk over the entries finds: a refusal's number or 0, and where that is 0 the entries, the frames and where
-// the last of the chunks ends.
+// What the walk over the entries finds: a refusal's number or 0, and where that is 0 the entries, the least key that could
+// follow them and where the last of the chunks ends.
 pub struct Walk {
     pub number: u64,
     pub entries: u64,
-    pub frames: u64,
+    pub least: u64,
     pub chunks_end: u64,
 }
 
@@ -65,28 +67,24 @@ pub fn chunk_bytes(n: u64, m: u32, kind: u8) -> u64
 
 // (frame, id) in its order, as one number.
 fn key_of(e: Entry) -> u64
-    requires { ⌜ e .frame < 2 ^ 47 ⌝ }
+    requires { ⌜ e .frame ≤ greatestFrame ⌝ }
     ensures answer { λ r. ⌜ r ≡ key e ⌝ }
-    ensures bound { λ r. ⌜ r < 2 ^ 63 ⌝ }
+    ensures bound { λ r. ⌜ r < keyOf (e .frame + 1) 0 ⌝ }
 {
     ID_RANGE * e.frame + (e.id as u64)
 }
 
-// Does the entry follow one whose key is below least and whose frame is top - 1?
-fn follows_last(least: u64, top: u64, e: Entry) -> bool
-    requires { ⌜ top < 2 ^ 47 ⌝ }
-    ensures { λ r. ⌜ r ≡ follows least top e ⌝ }
+// The frames up to the entry before, as least tells them.
+pub(crate) fn frames_to(least: u64) -> u64
+    requires { ⌜ least ≤ keysEnd ⌝ }
+    ensures { λ r. ⌜ r ≡ framesTo least ⌝ }
 {
-    if top < e.frame {
-        return false;
-    }
-    least <= key_of(e)
+    (least + (ID_RANGE - 1)) / ID_RANGE
 }
 
-// 12 to 15: the entry by itself and behind the one before.
-fn fields_number(version: u64, names: u64, least: u64, top: u64, e: Entry) -> u64
-    requires { ⌜ top < 2 ^ 47 ⌝ }
-    ensures { λ r. ⌜ r ≡ fieldsTest version names least top e ⌝ }
+// 12 to 14: the entry by itself.
+fn fields_number(version: u64, names: u64, e: Entry) -> u64
+    ensures { λ r. ⌜ r ≡ fieldsTest version names e ⌝ }
 {
     if e.location < HEADER_SIZE {
         return 12;
@@ -97,10 +95,7 @@ fn fields_number(version: u64, names: u64, least: u64, top: u64, e: Entry) -> u6
     if !known(version, e.kind) {
         return 13;
     }
-    if names <= e.id as u64 {
-        return 14;
-    }
-    refuse(!follows_last(least, top, e), 15)
+    refuse(names <= e.id as u64, 14)
 }
 
 // 16 and 17: n bytes from place a lie in the slice and outside both blocks.
@@ -123,17 +118,39 @@ fn room_number(l: Layout, a: u64, n: u64) -> u64
     0
 }
 
-// 12 to 17 for one entry, whose chunk has size bytes.
-fn entry_number(l: Layout, names: u64, least: u64, top: u64, e: Entry, size: u64) -> u64
+// 16 to 18, where the frame is above the greatest.
+fn late_number(l: Layout, a: u64, n: u64) -> u64
     requires blocks { ⌜ Blocks l ⌝ }
     requires short { ⌜ l .len ≤ greatestLength ⌝ }
-    requires top { ⌜ top < 2 ^ 47 ⌝ }
-    requires sized { ⌜ Capped (chunkSize e) size ⌝ }
-    ensures { λ r. ⌜ r ≡ entryTest l names least top e ⌝ }
+    requires place { ⌜ a < 2 ^ 63 ⌝ }
+    requires size { ⌜ n ≤ 2 ^ 63 ⌝ }
+    ensures { λ r. ⌜ r ≡ roomTest l a n ▹ 18 ⌝ }
 {
-    let number = fields_number(l.version, names, least, top, e);
-    if number != 0 {
-        return number;
+    let room = room_number(l, a, n);
+    if room != 0 {
+        return room;
+    }
+    18
+}
+
+// 12 to 18 for one entry, whose chunk has size bytes. Of a frame above the greatest no key is made, which could wrap: it would
+// be above every least.
+fn entry_number(l: Layout, names: u64, least: u64, e: Entry, size: u64) -> u64
+    requires blocks { ⌜ Blocks l ⌝ }
+    requires short { ⌜ l .len ≤ greatestLength ⌝ }
+    requires least { ⌜ least ≤ keysEnd ⌝ }
+    requires sized { ⌜ Capped (chunkSize e) size ⌝ }
+    ensures { λ r. ⌜ r ≡ entryTest l names least e ⌝ }
+{
+    let fields = fields_number(l.version, names, e);
+    if fields != 0 {
+        return fields;
+    }
+    if GREATEST_FRAME < e.frame {
+        return late_number(l, e.location, size);
+    }
+    if key_of(e) < least {
+        return 15;
     }
     room_number(l, e.location, size)
 }
@@ -149,7 +166,6 @@ pub(crate) fn walk_entries(image: &[u8], l: Layout, names: u64) -> Walk
     let mut at = l.index as usize;
     let mut i = 0;
     let mut least = 0;
-    let mut top = 0;
     let mut chunks_end = 0;
     let mut number = 0;
     while i < slots {
@@ -158,12 +174,11 @@ pub(crate) fn walk_entries(image: &[u8], l: Layout, names: u64) -> Walk
             break;
         }
         let size = chunk_bytes(e.n, e.m, e.kind);
-        number = entry_number(l, names, least, top, e, size);
+        number = entry_number(l, names, least, e, size);
         if number != 0 {
             break;
         }
         least = key_of(e) + 1;
-        top = e.frame + 1;
         chunks_end = greater(chunks_end, e.location + size);
         at += SLOT_SIZE as usize;
         i += 1;
@@ -171,7 +186,7 @@ pub(crate) fn walk_entries(image: &[u8], l: Layout, names: u64) -> Walk
     Walk {
         number,
         entries: i,
-        frames: top,
+        least,
         chunks_end,
     }
 }

@@ -2,6 +2,7 @@
 use crate::header::blocks_number;
 use crate::header::header_number;
 use crate::header::layout_of;
+use crate::index::frames_to;
 use crate::index::walk_entries;
 use gsd_bytes::SEGMENT_SIZE;
 use gsd_format::Layout;
@@ -71,7 +72,7 @@ fn survey_lists(image: &[u8], layout: Layout, starts: &mut [u32; PLACES]) -> Sur
         layout,
         names,
         entries: walk.entries,
-        frames: walk.frames,
+        frames: frames_to(walk.least),
         chunks_end: walk.chunks_end,
     }
 }

@@ -93,12 +93,8 @@ module _ (x : List ℕ) (s : Survey) (see : Sees x s) where
 -- What the survey of an image that opens tells
 
 module _ (x starts : List ℕ) (s : Survey) (told : Surveyed x starts s) (good : s .number ≡ 0) where
-  pub opens : verdict x ≡ 0
+  opens : verdict x ≡ 0
   opens = sym (told .number) ∙ good
-
-  pub layout-is : s .layout ≡ viewOf x .layout
-  unfolding viewOf
-  layout-is = told .layout good
 
   pub sees : Sees x s
   unfolding viewOf

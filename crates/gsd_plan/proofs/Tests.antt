@@ -8,8 +8,9 @@ use lib.ListN.{length}
 use lib.Dec.{eqb}
 use borrow.Author.Tests.{lt-ltb, le-ltb, eq-eqb, ne-eqb}
 use Rattle.gsd_format.specs.declared.Layout.{Layout}
-use Rattle.gsd_format.specs.Opening.{verdict, mostNames}
-use Rattle.gsd_format.specs.Refusals.{_▹_}
+use Rattle.gsd_format.specs.Entries.{framesOf}
+use Rattle.gsd_format.specs.Opening.{verdict, mostNames, greatestFrame}
+use Rattle.gsd_format.specs.Refusals.{_⇒_, _▹_}
 use Rattle.gsd_format.proofs.Refusals.{met, passed, decides, goes-on, first-of, stays, left-holds, right-decides, neither-of, not-of}
 use Rattle.gsd_stores.specs.View.{viewOf}
 use Rattle.gsd_stores.specs.Sheet.{rowsOf, sheetTest}
@@ -25,7 +26,7 @@ use Rattle.gsd_ids.specs.declared.NewNames.{NewNames}
 use Rattle.gsd_ids.specs.RowIds.{IdsFound}
 use Rattle.gsd_matched.specs.Matches.{Matches}
 use Rattle.gsd_plan.specs.Planning.{planned, Sees, Asked, Plans}
-use Rattle.gsd_plan.proofs.Image.{opens, layout-is}
+use Rattle.gsd_plan.proofs.Image.{sees}
 
 -- refused, planned, or as the test that decides says
 pub plans-refused : (x sheet : List ℕ) (k n r : ℕ) (p : List ℕ) → k ≡ suc n → r ≡ suc n → Plans x sheet k r p
@@ -66,7 +67,7 @@ module _ (x sheet : List ℕ) where
 
   -- Number by number
 
-  all-tests : appendTest x sheet ≡ verdict x ▹ imageTest (viewOf x .layout) ▹ sheetTest (viewOf x .layout .version) sheet ▹ planTest x sheet
+  all-tests : appendTest x sheet ≡ verdict x ▹ imageTest (viewOf x .layout) (framesOf (viewOf x .entries)) ▹ sheetTest (viewOf x .layout .version) sheet ▹ planTest x sheet
   unfolding appendTest
   all-tests = refl
 
@@ -81,17 +82,20 @@ module _ (x sheet : List ℕ) where
   not-opened n r p = stops n _ _ r p all-tests
 
   module _ (starts : List ℕ) (s : Survey) (told : Surveyed x starts s) (good : s .number ≡ 0) where
-    image-next : appendTest x sheet ≡ imageTest (s .layout) ▹ sheetTest (s .layout .version) sheet ▹ planTest x sheet
-    image-next =
-        all-tests ∙ first-of (verdict x) _ (opens x starts s told good)
-        ∙ ap (λ l. imageTest l ▹ sheetTest (l .version) sheet ▹ planTest x sheet) (sym (layout-is x starts s told good))
+    seen : Sees x s
+    seen = sees x starts s told good
 
-    pub bad-image : (n : ℕ) (r : ℕ) (p : List ℕ) → n ≡ imageTest (s .layout) → (n ≡ 0 → ⊥) → r ≡ n → Plans x sheet (appendTest x sheet) r p
+    image-next : appendTest x sheet ≡ imageTest (s .layout) (s .frames) ▹ sheetTest (s .layout .version) sheet ▹ planTest x sheet
+    image-next =
+        all-tests ∙ first-of (verdict x) _ (seen .opens)
+        ∙ sym (λ i. imageTest (seen .layout i) (seen .frames i) ▹ sheetTest (seen .layout i .version) sheet ▹ planTest x sheet)
+
+    pub bad-image : (n : ℕ) (r : ℕ) (p : List ℕ) → n ≡ imageTest (s .layout) (s .frames) → (n ≡ 0 → ⊥) → r ≡ n → Plans x sheet (appendTest x sheet) r p
     bad-image n r p = stops n _ _ r p image-next
 
-    module _ (even : imageTest (s .layout) ≡ 0) where
+    module _ (ready : imageTest (s .layout) (s .frames) ≡ 0) where
       sheet-next : appendTest x sheet ≡ sheetTest (s .layout .version) sheet ▹ planTest x sheet
-      sheet-next = image-next ∙ first-of (imageTest (s .layout)) _ even
+      sheet-next = image-next ∙ first-of (imageTest (s .layout) (s .frames)) _ ready
 
       pub bad-sheet : (n : ℕ) (r : ℕ) (p : List ℕ) → n ≡ sheetTest (s .layout .version) sheet → (n ≡ 0 → ⊥) → r ≡ n → Plans x sheet (appendTest x sheet) r p
       bad-sheet n r p = stops n _ _ r p sheet-next
@@ -99,16 +103,24 @@ module _ (x sheet : List ℕ) where
       pub good-sheet : sheetTest (s .layout .version) sheet ≡ 0 → appendTest x sheet ≡ planTest x sheet
       good-sheet e = sheet-next ∙ first-of (sheetTest (s .layout .version) sheet) (planTest x sheet) e
 
--- 21: where a block does not lie at a word
-module _ (l : Layout) where
-  pub odd-index : (l .index % 8 ≡ 0 → ⊥) → 21 ≡ imageTest l
+-- 21: a block does not lie at a word; 31: there is no greater frame
+module _ (l : Layout) (frames : ℕ) where
+  pub odd-index : (l .index % 8 ≡ 0 → ⊥) → 21 ≡ imageTest l frames
   unfolding imageTest
-  odd-index f = sym (met _ 21 (left-holds (not (eqb (l .index % 8) 0)) _ (rw (ne-eqb (l .index % 8) 0 f))))
+  odd-index f = sym (decides _ 20 _ (left-holds (not (eqb (l .index % 8) 0)) _ (rw (ne-eqb (l .index % 8) 0 f))))
 
-  pub odd-names : l .index % 8 ≡ 0 → (l .namelist % 8 ≡ 0 → ⊥) → 21 ≡ imageTest l
+  pub odd-names : l .index % 8 ≡ 0 → (l .namelist % 8 ≡ 0 → ⊥) → 21 ≡ imageTest l frames
   unfolding imageTest
-  odd-names e f = sym (met _ 21 (right-decides (not (eqb (l .index % 8) 0)) _ (not-of _ (eq-eqb (l .index % 8) 0 e)) ∙ rw (ne-eqb (l .namelist % 8) 0 f)))
+  odd-names e f =
+      sym (decides _ 20 _ (right-decides (not (eqb (l .index % 8) 0)) _ (not-of _ (eq-eqb (l .index % 8) 0 e)) ∙ rw (ne-eqb (l .namelist % 8) 0 f)))
 
-  pub both-even : l .index % 8 ≡ 0 → l .namelist % 8 ≡ 0 → 0 ≡ imageTest l
-  unfolding imageTest
-  both-even e f = sym (passed _ 21 (neither-of (not (eqb (l .index % 8) 0)) (not (eqb (l .namelist % 8) 0)) (not-of _ (eq-eqb _ _ e)) (not-of _ (eq-eqb _ _ f))))
+  module _ (e : l .index % 8 ≡ 0) (f : l .namelist % 8 ≡ 0) where
+    both-even : imageTest l frames ≡ (eqb frames (greatestFrame + 1) ⇒ 31)
+    unfolding imageTest
+    both-even = goes-on _ 21 _ (neither-of (not (eqb (l .index % 8) 0)) (not (eqb (l .namelist % 8) 0)) (not-of _ (eq-eqb _ _ e)) (not-of _ (eq-eqb _ _ f)))
+
+    pub frames-full : frames ≡ greatestFrame + 1 → 31 ≡ imageTest l frames
+    frames-full g = sym (both-even ∙ met _ 31 (eq-eqb frames (greatestFrame + 1) g))
+
+    pub image-good : (frames ≡ greatestFrame + 1 → ⊥) → 0 ≡ imageTest l frames
+    image-good g = sym (both-even ∙ passed _ 31 (ne-eqb frames (greatestFrame + 1) g))

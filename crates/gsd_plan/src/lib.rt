@@ -2,6 +2,7 @@
 // the append: its functions have a `requires`.
 mod put;
 
+use gsd_bytes::GREATEST_FRAME;
 use gsd_bytes::MOST_NAMES;
 use gsd_format::Layout;
 use gsd_ids::NewNames;
@@ -77,15 +78,18 @@ fn plan_names(
     plan_rows(image, sheet, survey, new, plan)
 }
 
-// 21: the append's test of an image that opens.
-fn image_number(l: Layout) -> u64
-    ensures { λ r. ⌜ r ≡ imageTest l ⌝ }
+// 21 and 31: the append's tests of an image that opens.
+fn image_number(l: Layout, frames: u64) -> u64
+    ensures { λ r. ⌜ r ≡ imageTest l frames ⌝ }
 {
     if l.index % 8 != 0 {
         return 21;
     }
     if l.namelist % 8 != 0 {
         return 21;
+    }
+    if frames == GREATEST_FRAME + 1 {
+        return 31;
     }
     0
 }
@@ -100,7 +104,7 @@ pub fn plan_append(image: &[u8], sheet: &[u8], plan: &mut [u64]) -> u64
     if survey.number != 0 {
         return survey.number;
     }
-    let number = image_number(survey.layout);
+    let number = image_number(survey.layout, survey.frames);
     if number != 0 {
         return number;
     }

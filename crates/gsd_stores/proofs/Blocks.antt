@@ -138,6 +138,7 @@ restage {x₀} {v} {d} {t} {x} {y} {l} {ns} low off r s = record {
         within = omega (arith, long);
         offIndex = r .index .off i a;
         offNames = r .names .off i a;
+        early = q .early;
       };
     };
     raw = λ k a. entries k a ∙ s .base .raw k a;

@@ -59,7 +59,7 @@ module _ (v : View) (rs : List Row) (p : Plan) (y : List ℕ) (w : View) (h : Ap
       record {
         entry = rowEntry v rs p i;
         found = look (framesOf (v .entries)) (getD rs i noRow .name) ∙ look-entry (v .entries ++ p .entries) (v .names ++ p .fresh) (framesOf (v .entries)) (getD rs i noRow .name) there (listed i l)
-            ∙ find-ordered (framesOf (v .entries)) (indexOf (getD rs i noRow .name) (v .names ++ p .fresh)) (v .entries ++ p .entries) 0 0 (r .ordered) (rowEntry v rs p i)
+            ∙ find-ordered (framesOf (v .entries)) (indexOf (getD rs i noRow .name) (v .names ++ p .fresh)) (v .entries ++ p .entries) 0 (r .ordered) (rowEntry v rs p i)
             (record {
               place = length (v .entries) + j;
               within = omega (arith, length-append (v .entries) (p .entries), e .entry);
@@ -83,7 +83,7 @@ module _ (v : View) (rs : List Row) (p : Plan) (y : List ℕ) (w : View) (h : Ap
       go : (s : Stands (v .entries ++ p .entries) (framesOf (v .entries)) (indexOf name (v .names ++ p .fresh)) e) → Has name (v .names ++ p .fresh) → Dec (s .place < length (v .entries)) → ⊥
       go s n (yes l) =
           let q : getD (v .entries) (s .place) none ≡ e = sym (List·getD-append (v .entries) (p .entries) none (s .place) l) ∙ s .there in
-          omega (arith, frames-below (v .entries) 0 0 (ordered-front (v .entries) (p .entries) 0 0 (r .ordered)) ids (s .place) l, ap (λ c. c .frame) q, s .sameFrame)
+          omega (arith, frames-below (v .entries) 0 0 (ordered-front (v .entries) (p .entries) 0 (r .ordered)) ids (s .place) l, ap (λ c. c .frame) q, s .sameFrame)
       go s n (no l) =
           let j : ℕ = s .place - length (v .entries) in
           let m : j < length (p .entries) = omega (arith, length-append (v .entries) (p .entries), s .within) in

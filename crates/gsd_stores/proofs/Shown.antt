@@ -28,7 +28,7 @@ use Rattle.gsd_stores.proofs.Keep.{Keep}
 pub record Legal (v : View) : Type 0 where
   pub few : length (v .names) ≤ mostNames
   pub distinct : Distinct (v .names)
-  pub ordered : Ordered 0 0 (v .entries)
+  pub ordered : Ordered 0 (v .entries)
 
 module _ {x : List ℕ} {v : View} (h : Is x v) where
   pub shown-entries : entriesOf x ≡ v .entries

@@ -141,13 +141,10 @@ sorted-is es ys d r h k =
     rising-same (sorted es) ys 0 (sorted-rising es d) r (sorted-each _ es h) (each-so _ _ (λ y a. sorted-any (λ e. e ≡ y) es a) ys k)
 
 -- entries of one frame, by rising ids, are in the order of keys
-pub rising-ordered : (es : List Entry) (frame least top : ℕ) → frame ≤ top → Each (λ e. e .frame ≡ frame) es → Rising least es →
-    Ordered (65536 * frame + least) top es
-rising-ordered [] frame least top l f h = tt
-rising-ordered (e ∷ es) frame least top l f h =
+pub rising-ordered : (es : List Entry) (frame least : ℕ) → Each (λ e. e .frame ≡ frame) es → Rising least es → Ordered (65536 * frame + least) es
+rising-ordered [] frame least f h = tt
+rising-ordered (e ∷ es) frame least f h =
     let g : e .frame ≡ frame = f .0 in (
       omega (arith, h .0),
-      omega arith,
-      ordered-weaker es (65536 * frame + (e .id + 1)) (frame + 1) (key e + 1) (e .frame + 1) (omega arith) (omega arith)
-          (rising-ordered es frame (e .id + 1) (frame + 1) (omega arith) (f .1) (h .1)),
+      ordered-weaker es (65536 * frame + (e .id + 1)) (key e + 1) (omega arith) (rising-ordered es frame (e .id + 1) (f .1) (h .1)),
     )

@@ -2,27 +2,27 @@
 use Prim.Native.Nat.{ℕ, _+_, _*_, _-_, _^_, _%_, _≤_, _<_}
 use mathlib.Core.Path.{_≡_, refl, sym, _∙_, ap}
 use mathlib.Core.Bool.{Bool, true, false, not, cond}
-use mathlib.Core.List.{List, [], _∷_, _++_}
+use mathlib.Core.List.{List, _++_}
 use native.Mathlib.Nat.{add-zero}
 use native.Mathlib.Omega.{arith}
 use lib.ListN.{length, getD, length-append}
 use lib.Dec.{eqb}
-use borrow.Author.Tests.{eqb-true, not-false}
+use borrow.Author.Tests.{eqb-true, eqb-false, not-false}
 use Rattle.gsd_format.specs.declared.Entry.{Entry}
 use Rattle.gsd_format.specs.declared.Layout.{Layout}
 use Rattle.gsd_format.specs.Bytes.{part, Apart}
 use Rattle.gsd_format.specs.Types.{known, chunkSize}
 use Rattle.gsd_format.specs.Header.{greatestLength, layoutOf}
 use Rattle.gsd_format.specs.Names.{namesOf, Distinct}
-use Rattle.gsd_format.specs.Entries.{entriesOf, key, framesFrom, framesOf}
-use Rattle.gsd_format.specs.Opening.{verdict, mostNames, Blocks}
+use Rattle.gsd_format.specs.Entries.{entriesOf, framesOf}
+use Rattle.gsd_format.specs.Opening.{verdict, mostNames, greatestFrame, Blocks}
 use Rattle.gsd_format.specs.Lookup.{none, chunkOf}
 use Rattle.gsd_format.proofs.Lists.{Each, each-at, at-each, each-append}
 use Rattle.gsd_format.proofs.Refusals.{both, unmet, neither, not-less}
 use Rattle.gsd_format.proofs.Bytes.{Octets}
 use Rattle.gsd_format.proofs.Texts.{text-part}
 use Rattle.gsd_format.proofs.Names.{Named, names-pass}
-use Rattle.gsd_format.proofs.Entries.{Fits, Ordered, ShortIds, entries-is, frames-none, frames-more, frames-grown, frames-last, ordered-append}
+use Rattle.gsd_format.proofs.Entries.{Fits, Ordered, ShortIds, frames-most, frames-grown, frames-last, ordered-append}
 use Rattle.gsd_format.proofs.Verdict.{Sound, AllSound, Opens, verdict-zero, sound-ids}
 use Rattle.gsd_stores.specs.Sheet.{Row, rowsOf, rowNames, mostRows}
 use Rattle.gsd_stores.specs.View.{View, viewOf, aligned}
@@ -40,6 +40,7 @@ pub record Valid (x : List ℕ) (rs : List Row) : Type 0 where
   pub opens : verdict x ≡ 0
   pub evenIndex : viewOf x .layout .index % 8 ≡ 0
   pub evenNames : viewOf x .layout .namelist % 8 ≡ 0
+  pub early : framesOf (viewOf x .entries) ≡ greatestFrame + 1 → ⊥
   pub some : 0 < length rs
   pub few : length rs ≤ mostRows
   pub rows : RowsOk (viewOf x .layout .version) rs
@@ -47,12 +48,13 @@ pub record Valid (x : List ℕ) (rs : List Row) : Type 0 where
   pub fewNames : length (viewOf x .names) + length (newNames (viewOf x .names) rs) ≤ mostNames
   pub fits : finalPosition (planOf (viewOf x) rs) ≤ viewOf x .layout .len
 
--- 21: both blocks lie at words
-image-even : (l : Layout) → imageTest l ≡ 0 → (l .index % 8 ≡ 0) × (l .namelist % 8 ≡ 0)
+-- 21: both blocks lie at words; 31: the last frame is not the greatest
+image-ready : (l : Layout) (frames : ℕ) → imageTest l frames ≡ 0 → (l .index % 8 ≡ 0) × (l .namelist % 8 ≡ 0) × (frames ≡ greatestFrame + 1 → ⊥)
 unfolding imageTest
-image-even l h =
-    let even = neither (not (eqb (l .index % 8) 0)) (not (eqb (l .namelist % 8) 0)) (unmet _ _ h) in
-    (eqb-true _ _ (not-false _ (even .0)), eqb-true _ _ (not-false _ (even .1)))
+image-ready l frames h =
+    let from21 = both _ _ h in
+    let even = neither (not (eqb (l .index % 8) 0)) (not (eqb (l .namelist % 8) 0)) (unmet _ _ (from21 .0)) in
+    (eqb-true _ _ (not-false _ (even .0)), eqb-true _ _ (not-false _ (even .1)), eqb-false _ _ (unmet _ _ (from21 .1)))
 
 pub valid : (x s : List ℕ) → Octets s → appendTest x s ≡ 0 → Valid x (rowsOf s)
 unfolding appendTest planTest
@@ -61,12 +63,13 @@ valid x s o h =
     let from21 = both _ _ (from1 .1) in
     let from22 = both _ _ (from21 .1) in
     let from28 = both _ _ (from22 .1) in
-    let even = image-even (viewOf x .layout) (from21 .0) in
+    let image = image-ready (viewOf x .layout) (framesOf (viewOf x .entries)) (from21 .0) in
     let ok : Accepted (viewOf x .layout .version) s = accepted _ s (from22 .0) in
     record {
       opens = from1 .0;
-      evenIndex = even .0;
-      evenNames = even .1;
+      evenIndex = image .0;
+      evenNames = image .1;
+      early = image .2;
       some = omega (arith, rows-count s, ok .some);
       few = omega (arith, rows-count s, ok .few);
       rows = rows-ok _ s o ok;
@@ -136,10 +139,10 @@ module _ (v : View) (rs : List Row) (p : Plan) (plan : Planned v rs p) (ok : Row
   new-rising d =
       rw (plan .entries) (sorted-rising (rowEntries v rs p) (new-differing rs (p .start) (framesOf (v .entries)) (namesAfter v p) (λ i l. row-sound i l .id) d))
 
-  pub new-ordered : Distinct (rowNames rs) → Ordered (65536 * framesOf (v .entries)) (framesOf (v .entries)) (p .entries)
+  pub new-ordered : Distinct (rowNames rs) → Ordered (65536 * framesOf (v .entries)) (p .entries)
   new-ordered d =
       let frames : Each (λ e. e .frame ≡ framesOf (v .entries)) (p .entries) = at-each _ (p .entries) none (λ j m. new-sound j m .frame) in
-      rw add-zero at (rising-ordered (p .entries) (framesOf (v .entries)) 0 (framesOf (v .entries)) (omega arith) frames (new-rising d))
+      rw add-zero at (rising-ordered (p .entries) (framesOf (v .entries)) 0 frames (new-rising d))
 
 -- The blocks after the append
 
@@ -179,10 +182,11 @@ module _ (v : View) (rs : List Row) (p : Plan) (plan : Planned v rs p) (fits : f
       }
 
   -- an entry whose chunk ends with the data or before, apart from the blocks, is sound with the blocks as they then lie
-  sound-after : (names : ℕ) (e : Entry) → 256 ≤ e .location → known (v .layout .version) (e .kind) ≡ true → e .id < names → e .location + chunkSize e ≤ dataEnd p →
+  sound-after : (names : ℕ) (e : Entry) → 256 ≤ e .location → known (v .layout .version) (e .kind) ≡ true → e .id < names → e .frame ≤ greatestFrame →
+      e .location + chunkSize e ≤ dataEnd p →
       Apart (e .location) (chunkSize e) (v .layout .index) (32 * v .layout .slots) →
       Apart (e .location) (chunkSize e) (v .layout .namelist) (64 * v .layout .segments) → Sound (layoutAfter v p) names e
-  sound-after names e low typed id high offIndex offNames =
+  sound-after names e low typed id early high offIndex offNames =
       let l : Layout = v .layout in
       record {
         low = low;
@@ -193,18 +197,19 @@ module _ (v : View) (rs : List Row) (p : Plan) (plan : Planned v rs p) (fits : f
         offIndex = apart-block (p .indexMoves) 32 (indexStart p) (p .slots) (l .index) (l .slots) (e .location) (chunkSize e) offIndex
             (omega (arith, positions p));
         offNames = apart-block (p .namesMove) 64 (namesStart p) (p .segments) (l .namelist) (l .segments) (e .location) (chunkSize e) offNames (omega arith);
+        early = early;
       }
 
   pub old-after : AllSound (v .layout) (length (v .names)) (v .entries) → AllSound (layoutAfter v p) (length (namesAfter v p)) (v .entries)
   old-after all i l =
       let s : Sound (v .layout) (length (v .names)) (getD (v .entries) i none) = all i l in
-      sound-after (length (namesAfter v p)) (getD (v .entries) i none) (s .low) (s .typed) (omega (arith, length-append (v .names) (p .fresh)))
+      sound-after (length (namesAfter v p)) (getD (v .entries) i none) (s .low) (s .typed) (omega (arith, length-append (v .names) (p .fresh))) (s .early)
       (omega (arith, plan .room .chunks i l, end-more (p .body) (p .start))) (s .offIndex) (s .offNames)
 
-  pub new-after : RowsOk (v .layout .version) rs → AllSound (layoutAfter v p) (length (namesAfter v p)) (p .entries)
-  new-after ok j l =
+  pub new-after : framesOf (v .entries) ≤ greatestFrame → RowsOk (v .layout .version) rs → AllSound (layoutAfter v p) (length (namesAfter v p)) (p .entries)
+  new-after f ok j l =
       let s : NewSound v p (getD (p .entries) j none) = new-sound v rs p plan ok j l in
-      sound-after (length (namesAfter v p)) (getD (p .entries) j none) (s .low) (s .typed) (s .id) (s .high)
+      sound-after (length (namesAfter v p)) (getD (p .entries) j none) (s .low) (s .typed) (s .id) (omega (arith, s .frame)) (s .high)
       (λ q a b c d. omega (arith, plan .room .index)) (λ q a b c d. omega (arith, plan .room .names))
 
 -- An accepted append is ready to be stored
@@ -224,22 +229,16 @@ pub record Ready (v : View) (rs : List Row) (p : Plan) : Type 0 where
   pub some : 0 < length (p .entries)
   pub new : (j : ℕ) → j < length (p .entries) → NewSound v p (getD (p .entries) j none)
   pub exact : (j : ℕ) → j < length (p .entries) → Fits (getD (p .entries) j none)
-  pub ordered : Ordered 0 0 (entriesAfter v p)
+  pub ordered : Ordered 0 (entriesAfter v p)
   pub rising : Rising 0 (p .entries)
   pub frames : framesOf (entriesAfter v p) ≡ framesOf (v .entries) + 1
   -- the blocks as they lie afterwards, and all entries with them
   pub blocks : Blocks (layoutAfter v p)
   pub sound : AllSound (layoutAfter v p) (length (namesAfter v p)) (entriesAfter v p)
 
--- a frame is at most one above the one before it
-frames-few : (es : List Entry) (least top : ℕ) → Ordered least top es → framesFrom top es ≤ top + length es
-frames-few [] least top h = omega (arith, frames-none top)
-frames-few (e ∷ es) least top h = omega (arith, frames-more top e es, h .1, frames-few es (key e + 1) (e .frame + 1) (h .2))
-
--- an image that opens lists no more entries than its slice has room for
-entries-room : (x : List ℕ) → Opens x → 32 * length (entriesOf x) ≤ greatestLength
-unfolding entriesOf layoutOf
-entries-room x o = omega (arith, entries-is (layoutOf x .slots) x (layoutOf x .index) .few, o .blocks .indexHigh, o .front .high)
+-- an image that opens has at most one frame more than the greatest number of one; with 31 the new frame is no greater
+new-early : (x : List ℕ) → Opens x → (framesOf (entriesOf x) ≡ greatestFrame + 1 → ⊥) → framesOf (entriesOf x) ≤ greatestFrame
+new-early x o n = omega (arith, frames-most (entriesOf x) 0 greatestFrame (omega arith) (λ i l. o .sound i l .early))
 
 names-distinct : (x : List ℕ) → Opens x → Distinct (namesOf x)
 names-distinct x o = names-pass x (layoutOf x) (namesOf x) (o .names) .2
@@ -254,7 +253,7 @@ ready x rs ok =
     let small : length x ≤ greatestLength = opens .front .high in
     let fresh : p .fresh ≡ newNames (namesOf x) rs = plan .fresh in
     let names : length (namesAfter v p) ≤ mostNames = rw (fresh, length-append) (ok .fewNames) in
-    let frames : framesOf (entriesOf x) < 2 ^ 64 = omega (arith, frames-few (entriesOf x) 0 0 (opens .ordered), entries-room x opens) in
+    let early : framesOf (entriesOf x) ≤ greatestFrame = new-early x opens (ok .early) in
     let new : ((j : ℕ) → j < length (p .entries) → NewSound v p (getD (p .entries) j none)) = new-sound v rs p plan (ok .rows) in
     let some : 0 < length (p .entries) = omega (arith, entries-count v rs p plan, ok .some) in
     let end : ℕ = length (p .entries) - 1 in
@@ -273,12 +272,12 @@ ready x rs ok =
       distinct = rw fresh (all-distinct (namesOf x) rs (names-distinct x opens) (ok .distinct));
       some = some;
       new = new;
-      exact = new-fits v rs p plan (ok .rows) frames (omega (arith, positions p, ok .fits)) (omega arith);
+      exact = new-fits v rs p plan (ok .rows) (omega arith) (omega (arith, positions p, ok .fits)) (omega arith);
       ordered = ordered-append (entriesOf x) (p .entries) 0 0 (opens .ordered) ids (omega arith) (new-ordered v rs p plan (ok .rows) (ok .distinct));
       rising = new-rising v rs p plan (ok .rows) (ok .distinct);
       frames = frames-grown 0 0 (entriesOf x) (p .entries) some ∙ frames-last 0 (p .entries) end (omega arith) ∙ ap (λ f. f + 1) (new end (omega arith) .frame);
       blocks = blocks-after v rs p plan (ok .fits) small (opens .blocks);
       sound = each-at Fine (entriesOf x ++ p .entries) none (each-append Fine (entriesOf x) (p .entries)
           (at-each Fine (entriesOf x) none (old-after v rs p plan (ok .fits) small (opens .sound)))
-          (at-each Fine (p .entries) none (new-after v rs p plan (ok .fits) small (ok .rows))));
+          (at-each Fine (p .entries) none (new-after v rs p plan (ok .fits) small early (ok .rows))));
     }

@@ -25,9 +25,9 @@ use Rattle.gsd_stores.specs.Steps.{clearIndex, clearNames, storeTexts, moved, m
 use Rattle.gsd_stores.specs.Append.{imageTest, planTest, appendTest, storesFor, appendAnswer, appended}
 use Rattle.gsd_stores.specs.Runs.{afterRun, lastStoreMade, completed}
 use Rattle.gsd_worked.specs.Table.{tableRow, sheetA, sheetB, sheetOf, freshIn, createdIn, inVersion, stepCounts, shown, table, versions}
-use Rattle.gsd_worked.specs.Table.{entriesFrom, search, probes, passes}
+use Rattle.gsd_worked.specs.Table.{entriesFrom, search, probes, framed, sized, gaps, passes}
 
-pub worked : (passes table ≡ true) × (passes versions ≡ true) × (passes probes ≡ true)
+pub worked : (passes table ≡ true) × (passes versions ≡ true) × (passes probes ≡ true) × (passes gaps ≡ true)
 unfolding le leBytes same zeroIn stored ascii _⇒_ _▹_ sizeOf lastType layoutOf partsAt nameParts namesOf flat indexOf entryAt
     entriesAt entriesOf framesFrom headerTest blocksTest twins namesTest entryTest entriesTest verdict countsOf
     opening nthEntry nthName findEntry lookupIn lookup placed chunkPlace bytesAt orDefault createTest freshHeader
@@ -38,5 +38,5 @@ unfolding le leBytes same zeroIn stored ascii _⇒_ _▹_ sizeOf lastType layout
     storeName storeNames moveIndex entryBytes indexBytes storeEntries stepsOf storeList imageTest planTest appendTest
     storesFor appendAnswer appended afterRun lastStoreMade completed tableRow sheetA sheetB freshIn createdIn
     stepCounts shown sheetOf inVersion elementOf elementIn element halve lastProbe probed searched searchTest
-    unless size span climb entriesFrom search table versions probes passes
-worked = (refl, refl, refl)
+    unless size span climb entriesFrom search framed sized table versions probes gaps passes
+worked = (refl, refl, refl, refl)

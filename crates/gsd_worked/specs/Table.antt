@@ -6,9 +6,9 @@ use mathlib.Core.Bool.{Bool, true, _&&_}
 use lib.ListN.{getD, length}
 use Rattle.gsd_format.specs.Bytes.{same, leBytes, zeros, stored}
 use Rattle.gsd_format.specs.Ascii.{ascii}
-use Rattle.gsd_format.specs.Header.{version20, versionPlace, versionOf, layoutOf}
+use Rattle.gsd_format.specs.Header.{version20, versionPlace, slotSize, versionOf, layoutOf}
 use Rattle.gsd_format.specs.Names.{namesOf}
-use Rattle.gsd_format.specs.Entries.{entriesOf}
+use Rattle.gsd_format.specs.Entries.{nPlace, entriesOf}
 use Rattle.gsd_format.specs.Opening.{verdict}
 use Rattle.gsd_format.specs.declared.Entry.{Entry}
 use Rattle.gsd_format.specs.Lookup.{lookup, none}
@@ -202,6 +202,71 @@ probes =
       says = "binary digits of 0, 1, 2, 3, 4, 7, 8, 40,000";
       got = map binaryDigits (0 ∷ 1 ∷ 2 ∷ 3 ∷ 4 ∷ 7 ∷ 8 ∷ 40000 ∷ []);
       expected = 0 ∷ 1 ∷ 2 ∷ 2 ∷ 3 ∷ 3 ∷ 4 ∷ 16 ∷ [];
+    }
+    ∷ []
+
+-- the image with other frames for its first three entries
+unfoldable pub framed : ℕ → ℕ → ℕ → List ℕ → List ℕ
+framed a b c img =
+    let i : ℕ = layoutOf img .index in
+    stored (stored (stored img i (leBytes 8 a)) (i + slotSize) (leBytes 8 b)) (i + 2 * slotSize) (leBytes 8 c)
+
+-- the image with this N for its third entry
+unfoldable pub sized : ℕ → List ℕ → List ℕ
+sized n img = stored img (layoutOf img .index + 2 * slotSize + nPlace) (leBytes 8 n)
+
+abbrev pub found : List ℕ → ℕ → String → ℕ
+found img frame name = listedNumber (lookup img frame (ascii name))
+
+-- frames that wrote nothing: after B the entries are of probe, probe and heater
+unfoldable pub gaps : List Case
+gaps =
+    let b : List ℕ = appended (appended (freshIn 1024) sheetA 23) sheetB 43 in
+    let gap : List ℕ = framed 3 7 7 b in
+    let more : List ℕ = appended gap sheetA 1000 in
+    let last : List ℕ = framed 0 7 4294967294 b in
+    let lastButOne : List ℕ = framed 0 7 4294967293 b in
+    let full : List ℕ = appended lastButOne sheetA 1000 in
+    record { says = "frames 3 and 7 alone: 8 frames"; got = shown gap; expected = 0 ∷ 8 ∷ 2 ∷ 3 ∷ [] }
+    ∷ record {
+      says = "found in 3 and 7; in empty frames 42, and 41 for a name that is not listed; 40 in frame 8";
+      got = found gap 3 "probe" ∷ found gap 7 "heater" ∷ found gap 0 "probe" ∷ found gap 5 "heater" ∷ found gap 5 "fan" ∷ found gap 8 "probe" ∷ [];
+      expected = 0 ∷ 0 ∷ 42 ∷ 42 ∷ 41 ∷ 40 ∷ [];
+    }
+    ∷ record {
+      says = "an append goes behind the last frame, into no gap";
+      got = shown more ++ found more 8 "probe" ∷ found more 0 "probe" ∷ found more 4 "probe" ∷ [];
+      expected = 0 ∷ 9 ∷ 2 ∷ 4 ∷ 0 ∷ 42 ∷ 42 ∷ [];
+    }
+    ∷ record {
+      says = "a falling frame, and (frame, id) twice: 15";
+      got = verdict (framed 3 2 7 b) ∷ verdict (framed 3 7 6 b) ∷ verdict (framed 8 7 7 b) ∷ verdict (framed 3 3 7 b) ∷ [];
+      expected = 15 ∷ 15 ∷ 15 ∷ 15 ∷ [];
+    }
+    ∷ record {
+      says = "a frame above 4,294,967,294: 18, and nothing wraps";
+      got = verdict last ∷ verdict (framed 0 7 4294967295 b) ∷ verdict (framed 0 9223372036854775808 7 b) ∷ verdict (framed 18446744073709551615 7 7 b) ∷ [];
+      expected = 0 ∷ 18 ∷ 18 ∷ 18 ∷ [];
+    }
+    ∷ record {
+      says = "of one entry 15 goes before 16, and 16 before 18";
+      got = verdict (sized 1025 (framed 3 7 6 b)) ∷ verdict (sized 1025 (framed 3 7 18446744073709551615 b)) ∷ [];
+      expected = 15 ∷ 16 ∷ [];
+    }
+    ∷ record {
+      says = "last frame 4,294,967,294: found there, 40 behind it";
+      got = shown last ++ found last 4294967294 "heater" ∷ found last 4294967294 "probe" ∷ found last 4294967295 "heater" ∷ [];
+      expected = 0 ∷ 4294967295 ∷ 2 ∷ 3 ∷ 0 ∷ 42 ∷ 40 ∷ [];
+    }
+    ∷ record {
+      says = "an append to it: 31 and no store, of an empty sheet too";
+      got = appendTest last sheetA ∷ length (storesFor last sheetA) ∷ appendTest last [] ∷ [];
+      expected = 31 ∷ 0 ∷ 31 ∷ [];
+    }
+    ∷ record {
+      says = "last frame 4,294,967,293: one append fits, the next gives 31";
+      got = appendTest lastButOne sheetA ∷ shown full ++ found full 4294967294 "probe" ∷ appendTest full sheetA ∷ [];
+      expected = 0 ∷ 0 ∷ 4294967295 ∷ 2 ∷ 4 ∷ 0 ∷ 31 ∷ [];
     }
     ∷ []
 

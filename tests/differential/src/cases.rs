@@ -4,8 +4,9 @@
 //! implementation and the archive to the paper itself, not only to each other.
 
 use crate::ask::Ask;
+use crate::demand3::{Call, Run};
 use crate::images::{self, get64, put32, put64, put_names, put_slots, sheet, version, Row, Slot};
-use crate::images::{V2_0, V2_1, VERSIONS};
+use crate::images::{frames_to_ask, GREATEST_FRAME, V2_0, V2_1, VERSIONS};
 use crate::library::{Create, Library};
 use std::ops::Deref;
 
@@ -131,6 +132,13 @@ fn index(l: &Versioned, keys: &[Key], names: usize, free: usize) -> Vec<u8> {
         Slot::bytes(frame, id, (data + n) as u64, 1).put(&mut image, 256 + 32 * n);
         image[data + n] = n as u8;
     }
+    image
+}
+
+/// [`index`] with a free slot, and room behind it for some appends.
+fn growing(l: &Versioned, keys: &[Key], names: usize) -> Vec<u8> {
+    let mut image = index(l, keys, names, 1);
+    image.resize(image.len().next_multiple_of(8) + 1024, 0);
     image
 }
 
@@ -329,18 +337,20 @@ const CASES: &[Case] = &[
         image[383] = 0;
         assert_eq!(l.counts(&image), Ok([0, 3, 0]));
     }),
-    ("numbers 12 to 17", |l| {
+    ("numbers 12 to 18", |l| {
         let verdict = |slots: &[Slot]| l.counts(&entries(l, 512, slots)).err().unwrap_or(0);
         let good = Slot::bytes(0, 0, 384, 4);
         assert_eq!(verdict(&[good]), 0);
         assert_eq!(verdict(&[Slot { location: 255, ..good }]), 12);
         assert_eq!(verdict(&[Slot { kind: 12, ..good }]), 13);
         assert_eq!(verdict(&[Slot { id: 1, ..good }]), 14);
-        assert_eq!(verdict(&[Slot { frame: 1, ..good }]), 15);
+        assert_eq!(verdict(&[Slot { frame: 1, ..good }]), 0);
+        assert_eq!(verdict(&[Slot { frame: 1, ..good }, good]), 15);
         assert_eq!(verdict(&[good, good]), 15);
         assert_eq!(verdict(&[good, Slot { frame: 1, ..good }]), 0);
-        assert_eq!(verdict(&[good, Slot { frame: 2, ..good }]), 15);
-        assert_eq!(verdict(&[Slot { frame: u64::MAX, ..good }]), 15);
+        assert_eq!(verdict(&[good, Slot { frame: 2, ..good }]), 0);
+        assert_eq!(verdict(&[Slot { frame: 4_294_967_294, ..good }]), 0);
+        assert_eq!(verdict(&[Slot { frame: 4_294_967_295, ..good }]), 18);
         assert_eq!(verdict(&[Slot { n: 129, ..good }]), 16);
         assert_eq!(verdict(&[Slot { n: 128, ..good }]), 0);
         assert_eq!(verdict(&[Slot { location: 319, n: 1, ..good }]), 17);
@@ -644,6 +654,18 @@ const CASES: &[Case] = &[
                         assert_eq!(search(l, &image, &keys, key), expected, "{entries}");
                     }
                 }
+                // Before each of these an empty frame: all names have their place there.
+                let keys: Vec<Key> = keys.iter().map(|&(frame, id)| (2 * frame + 1, id)).collect();
+                let image = index(l, &keys, 3, free);
+                for place in 0..entries {
+                    for id in 0..3 {
+                        let expected = (place, false, counts[place]);
+                        let key = (2 * place as u64, id);
+                        assert_eq!(search(l, &image, &keys, key), expected, "{entries}");
+                    }
+                    let expected = (place, true, counts[place]);
+                    assert_eq!(search(l, &image, &keys, keys[place]), expected, "{entries}");
+                }
             }
         }
     }),
@@ -779,12 +801,238 @@ const CASES: &[Case] = &[
         let verdict = |slots: &[Slot]| l.counts(&entries(l, 512, slots)).err().unwrap_or(0);
         let far = Slot::bytes(0, 0, 511, 9);
         assert_eq!(verdict(&[far, Slot::bytes(0, 0, 1, 1)]), 16);
-        let all = Slot { frame: 3, n: 9, location: 2, m: 1, id: 9, kind: 0, flags: 0 };
-        assert_eq!(verdict(&[all]), 12);
-        assert_eq!(verdict(&[Slot { location: 511, ..all }]), 13);
-        assert_eq!(verdict(&[Slot { location: 511, kind: 1, ..all }]), 14);
-        assert_eq!(verdict(&[Slot { location: 511, kind: 1, id: 0, ..all }]), 15);
+        let before = Slot::bytes(3, 0, 384, 1);
+        let all = Slot { frame: 2, n: 9, location: 2, m: 1, id: 9, kind: 0, flags: 0 };
+        assert_eq!(verdict(&[before, all]), 12);
+        assert_eq!(verdict(&[before, Slot { location: 511, ..all }]), 13);
+        assert_eq!(verdict(&[before, Slot { location: 511, kind: 1, ..all }]), 14);
+        assert_eq!(verdict(&[before, Slot { location: 511, kind: 1, id: 0, ..all }]), 15);
+        assert_eq!(verdict(&[before, Slot { location: 383, kind: 1, id: 0, ..all }]), 15);
         assert_eq!(verdict(&[Slot { location: 300, n: 500, ..far }]), 16);
+    }),
+    ("18 is the last test of an entry", |l| {
+        let verdict = |slots: &[Slot]| l.counts(&entries(l, 512, slots)).err().unwrap_or(0);
+        let good = Slot::bytes(0, 0, 384, 4);
+        for frame in [GREATEST_FRAME - 1, GREATEST_FRAME] {
+            assert_eq!(verdict(&[Slot { frame, ..good }]), 0);
+            assert_eq!(verdict(&[good, Slot { frame, ..good }]), 0);
+        }
+        for frame in [GREATEST_FRAME + 1, GREATEST_FRAME + 2, 1 << 48, 1 << 63, ALL] {
+            let late = Slot { frame, ..good };
+            for (slot, number) in [
+                (late, 18),
+                (Slot { location: 255, ..late }, 12),
+                (Slot { location: ALL, ..late }, 12),
+                (Slot { kind: 0, ..late }, 13),
+                (Slot { id: 1, ..late }, 14),
+                (Slot { n: 129, ..late }, 16),
+                (Slot { n: 1 << 62, m: 4, ..late }, 16),
+                (Slot { location: 319, n: 1, ..late }, 17),
+                (Slot { location: 383, ..late }, 17),
+                // The list ends there.
+                (Slot { location: 0, ..late }, 0),
+            ] {
+                assert_eq!(verdict(&[slot]), number);
+                assert_eq!(verdict(&[good, slot]), number);
+            }
+            // The first bad entry decides.
+            assert_eq!(verdict(&[late, Slot { location: 1, ..good }]), 18);
+            assert_eq!(verdict(&[late, good]), 18);
+            assert_eq!(verdict(&[Slot { n: 129, ..good }, late]), 16);
+            assert_eq!(l.probed(&entries(l, 512, &[good, late]), 0, b"a"), (18, 0));
+        }
+    }),
+    ("15 where (frame, id) is not above the entry before, and nowhere else", |l| {
+        let verdict = |keys: &[Key]| l.counts(&index(l, keys, 3, 1)).err().unwrap_or(0);
+        for frame in [0, 1, 2, 99, GREATEST_FRAME] {
+            for id in 0..3 {
+                assert_eq!(verdict(&[(frame, id)]), 0);
+            }
+        }
+        for (before, after) in [
+            ((5, 1), (5, 1)),
+            ((5, 1), (5, 0)),
+            ((5, 0), (4, 0)),
+            ((5, 0), (4, 2)),
+            ((1, 2), (0, 2)),
+            ((GREATEST_FRAME, 1), (GREATEST_FRAME, 1)),
+            ((GREATEST_FRAME, 2), (GREATEST_FRAME, 0)),
+            ((GREATEST_FRAME, 0), (GREATEST_FRAME - 1, 2)),
+            ((GREATEST_FRAME, 0), (0, 1)),
+        ] {
+            assert_eq!(verdict(&[before, after]), 15, "{before:?} {after:?}");
+            assert_eq!(verdict(&[(0, 0), before, after]), 15, "{before:?} {after:?}");
+            assert_eq!(verdict(&[after, before]), if after == before { 15 } else { 0 });
+        }
+        assert_eq!(verdict(&[(5, 2), (6, 0), (8, 1), (GREATEST_FRAME, 0), (GREATEST_FRAME, 1)]), 0);
+        // Above, whatever wraps: from 2^48 on 65,536 times the frame has over 64 bits.
+        for frame in [GREATEST_FRAME + 1, 1 << 32, 1 << 48, (1 << 48) + 1, 1 << 63, ALL - 1, ALL] {
+            for before in [(0, 2), (1, 2), (GREATEST_FRAME, 2)] {
+                assert_eq!(verdict(&[before, (frame, 0)]), 18, "{before:?} {frame}");
+            }
+        }
+    }),
+    ("frames may be left out anywhere", |l| {
+        let lists: [&[Key]; 7] = [
+            &[(1, 0)],
+            &[(7, 2)],
+            &[(0, 0), (2, 0)],
+            &[(0, 2), (5, 0), (5, 1), (9, 2)],
+            &[(3, 1), (4, 0), (1 << 31, 2)],
+            &[(GREATEST_FRAME, 0)],
+            &[(1, 1), (GREATEST_FRAME, 0), (GREATEST_FRAME, 2)],
+        ];
+        for keys in lists {
+            let image = index(l, keys, 3, 1);
+            let named: Vec<u64> = keys.iter().map(|key| key.0).collect();
+            let frames = named[named.len() - 1] + 1;
+            assert_eq!(l.counts(&image), Ok([frames, 3, keys.len() as u64]));
+            for frame in frames_to_ask(&named, frames) {
+                for id in 0..3 {
+                    search(l, &image, keys, (frame, id));
+                }
+                assert_eq!(l.find(&image, frame, b"fan"), Err(41));
+            }
+            // In 32 bits the third of these would be the last frame.
+            for frame in [frames, frames + 1, frames - 1 + (1 << 32), ALL] {
+                for name in [&numbered(0)[..], &numbered(2), b"fan"] {
+                    assert_eq!(l.find(&image, frame, name), Err(40));
+                }
+            }
+        }
+    }),
+    ("an empty frame has no chunk", |l| {
+        let good = Slot::bytes(2, 0, 384, 4);
+        let image = entries(l, 512, &[good, Slot { frame: 4, ..good }]);
+        let listing = "frames 5 names 1 entries 2\n2 0 1 4 1 384\n4 0 1 4 1 384\n";
+        assert_eq!(l.listing(&image), listing);
+        for frame in [0, 1, 3] {
+            assert_eq!(l.find(&image, frame, b"a"), Err(42));
+            assert_eq!(l.bytes(&image, frame, b"a"), Err(42));
+            assert_eq!(l.nth_element(&image, frame, b"a", 0), Err(42));
+            assert_eq!(l.find(&image, frame, b"b"), Err(41));
+            // Probed are 1, 0, 0, and for frame 3 1, 0, 1.
+            assert_eq!(l.probed(&image, frame, b"a"), (42, 3));
+            assert_eq!(l.probed(&image, frame, b"b"), (41, 0));
+        }
+        for frame in [2, 4] {
+            assert_eq!(l.bytes(&image, frame, b"a"), Ok(&[0; 4][..]));
+        }
+        assert_eq!(l.find(&image, 5, b"a"), Err(40));
+        assert_eq!(l.probed(&image, 5, b"a"), (40, 0));
+    }),
+    ("two entries span 4,294,967,295 frames", |l| {
+        let keys = [(0, 0), (4_294_967_294, 1)];
+        let image = growing(l, &keys, 2);
+        assert_eq!(l.counts(&image), Ok([4_294_967_295, 2, 2]));
+        assert_eq!(search(l, &image, &keys, (0, 0)), (0, true, 3));
+        for key in [(0, 1), (1, 0), (1 << 31, 1), (4_294_967_293, 1), (4_294_967_294, 0)] {
+            assert_eq!(search(l, &image, &keys, key), (1, false, 3));
+        }
+        assert_eq!(search(l, &image, &keys, (4_294_967_294, 1)), (1, true, 3));
+        for frame in [4_294_967_295, 4_294_967_296, 8_589_934_590, ALL] {
+            assert_eq!(l.find(&image, frame, &numbered(1)), Err(40));
+        }
+        assert_eq!(l.after(&image, &sheet_a(), ALL), (image, Err(31)));
+    }),
+    ("no append behind frame 4,294,967,294", |l| {
+        let full = entries(l, 1024, &[Slot::bytes(4_294_967_294, 0, 384, 4)]);
+        let listing = "frames 4294967295 names 1 entries 1\n4294967294 0 1 4 1 384\n";
+        assert_eq!(l.listing(&full), listing);
+        let other = entries(l, 1024, &[Slot::bytes(4_294_967_293, 0, 384, 4)]);
+        let row = Row::bytes(b"a", b"1");
+        let good = sheet(std::slice::from_ref(&row));
+        let sheets = [
+            (Vec::new(), 22),
+            (vec![0; 4], 22),
+            (good[..19].to_vec(), 23),
+            (sheet(&[Row { kind: 12, ..row.clone() }]), 24),
+            ([&good[..], b"2"].concat(), 25),
+            (sheet(&[Row { name: vec![0], ..row.clone() }]), 26),
+            (sheet(&[row.clone(), row]), 27),
+            (sheet(&[Row::bytes(b"b", &[0; 640])]), 29),
+            (good, 0),
+        ];
+        for (sheet, number) in sheets {
+            assert_eq!(l.after(&other, &sheet, 0).1.err().unwrap_or(0), number);
+            for limit in [0, 1, ALL] {
+                assert_eq!(l.after(&full, &sheet, limit), (full.clone(), Err(31)));
+            }
+        }
+        let mut out = [0x5555; 2];
+        assert_eq!(l.append(&mut full.clone(), b"", ALL, &mut out), 31);
+        assert_eq!(out, [0, 0]);
+    }),
+    ("31 goes before 28 and after 21", |l| {
+        for (frame, numbers) in [(GREATEST_FRAME - 1, [28, 21, 21]), (GREATEST_FRAME, [31, 21, 21])] {
+            let mut names = many_names(l, 1024);
+            let end = names.len() as u64;
+            put_slots(&mut names, 256, &[Slot::bytes(frame, 0, end, 0)]);
+            let odd = [(260, 328), (256, 324)].map(|(index, list)| {
+                let mut image = l.blank(1024, index, 2, list, 1);
+                put_names(&mut image, list as usize, [&b"a"[..]]);
+                put_slots(&mut image, index as usize, &[Slot::bytes(frame, 0, 400, 4)]);
+                image
+            });
+            for (image, number) in [names].into_iter().chain(odd).zip(numbers) {
+                assert_eq!(l.counts(&image).map(|counts| counts[0]), Ok(frame + 1));
+                assert_eq!(l.after(&image, &nothing(b"new"), ALL).1, Err(number));
+                let bad = if number == 28 { 22 } else { number };
+                assert_eq!(l.after(&image, b"", ALL).1, Err(bad));
+            }
+        }
+    }),
+    ("one append fits behind frame 4,294,967,293", |l| {
+        let image = entries(l, 1024, &[Slot::bytes(4_294_967_293, 0, 384, 4)]);
+        let row = sheet(&[Row::bytes(b"a", b"1")]);
+        let (after, stores) = l.after(&image, &row, ALL);
+        assert_eq!(stores, Ok([4 + 8 + 1 + 4; 2]));
+        assert_eq!(
+            l.listing(&after),
+            "frames 4294967295 names 1 entries 2\n4294967293 0 1 4 1 384\n4294967294 0 1 1 1 392\n"
+        );
+        assert_eq!(l.after(&after, &row, ALL), (after.clone(), Err(31)));
+        for limit in 0..17 {
+            let (stopped, stores) = l.after(&image, &row, limit);
+            assert_eq!(stores, Ok([limit, 17]));
+            assert_eq!(l.counts(&stopped), Ok([4_294_967_294, 1, 1]));
+            assert_eq!(l.find(&stopped, 4_294_967_294, b"a"), Err(40));
+            // The same again fits, and no other behind it.
+            assert_eq!(l.after(&stopped, &row, ALL), (after.clone(), Ok([17, 17])));
+        }
+    }),
+    ("a run of appends ends with frame 4,294,967,294", |l| {
+        // The first append has 17 stores; the second moves the index: 8 + 1 + 18 + 4.
+        let calls = [5, ALL, 12, ALL, 3, ALL]
+            .map(|limit| Call::new(l.version, sheet(&[Row::bytes(b"a", b"1")]), limit));
+        for (frame, moments) in
+            [(4_294_967_292, 1 + 5 + 17 + 12 + 31), (4_294_967_293, 1 + 5 + 17), (4_294_967_294, 1)]
+        {
+            let start = entries(l, 1024, &[Slot::bytes(frame, 0, 384, 4)]);
+            assert_eq!(Run::make(l.library, &start, &calls), Ok(moments));
+        }
+    }),
+    ("an append never fills a gap", |l| {
+        let rows = sheet(&[Row::bytes(&numbered(1), b"1"), Row::bytes(b"new", b"2")]);
+        let lists: [&[Key]; 4] =
+            [&[(2, 0)], &[(0, 0), (5, 1)], &[(1, 1), (3, 0), (3, 1)], &[(GREATEST_FRAME - 1, 1)]];
+        for keys in lists {
+            let image = growing(l, keys, 2);
+            let named = l.named_frames(&image).unwrap();
+            let frames = named[named.len() - 1] + 1;
+            let (after, stores) = l.after(&image, &rows, ALL);
+            assert_eq!(l.named_frames(&after), Ok([&named[..], &[frames, frames]].concat()));
+            assert_eq!(l.bytes(&after, frames, b"new"), Ok(&b"2"[..]));
+            for frame in frames_to_ask(&named, frames) {
+                assert_eq!(l.find(&image, frame, b"new"), Err(41));
+                assert_eq!(l.find(&after, frame, b"new"), Err(42));
+            }
+            let whole = stores.unwrap()[1];
+            for limit in 0..=whole {
+                let calls = [limit, ALL].map(|limit| Call::new(l.version, rows.clone(), limit));
+                Run::make(l.library, &image, &calls).unwrap();
+            }
+        }
     }),
     ("types 0 and from 12 on are unknown", |l| {
         for kind in [0].into_iter().chain(12..=255) {
@@ -971,7 +1219,9 @@ const BETWEEN: &[Between] = &[
         };
         assert_eq!(both(&[Slot { location: 255, ..text }]), [12, 12]);
         assert_eq!(both(&[Slot { id: 1, ..text }]), [13, 14]);
-        assert_eq!(both(&[Slot { frame: 1, ..text }]), [13, 15]);
+        assert_eq!(both(&[Slot { frame: 1, ..text }]), [13, 0]);
+        assert_eq!(both(&[text, text]), [13, 15]);
+        assert_eq!(both(&[Slot { frame: ALL, ..text }]), [13, 18]);
         assert_eq!(both(&[Slot { n: 129, ..text }]), [13, 16]);
         assert_eq!(both(&[Slot { n: 128, ..text }]), [13, 0]);
         assert_eq!(both(&[Slot { n: 1 << 62, m: 4, ..text }]), [13, 16]);

@@ -1,6 +1,6 @@
 //! Two makers of the calls side by side, on one image.
 
-use crate::images::Row;
+use crate::images::{frames_to_ask, Row};
 use crate::lent::{Flush, Lent};
 use crate::library::{Create, Library, Reference};
 use std::collections::BTreeMap;
@@ -266,19 +266,19 @@ impl<'l> Check<'l> {
                 self.lookup_listed(frames.saturating_sub(1), place);
             }
         }
-        for n in (0..=entries).chain([u64::MAX]) {
-            self.entry(n);
-        }
+        let numbers = (0..=entries).chain([u64::MAX]);
+        let named: Vec<u64> = numbers.filter_map(|n| self.entry(n)).map(|entry| entry[0]).collect();
         let own: Vec<Vec<u8>> = (0..listed)
             .map_while(|n| crate::reference::name(&self.ours, n).map(<[u8]>::to_vec).ok())
             .filter(|name| !names.contains(name))
             .collect();
-        for frame in 0..frames {
+        for frame in frames_to_ask(&named, frames) {
             for name in names.iter().chain(&own) {
                 self.read(frame, name);
             }
         }
-        for frame in [0, frames, u64::MAX] {
+        // In 32 bits the third of these would be the last frame.
+        for frame in [0, frames, frames.saturating_sub(1) + (1 << 32), u64::MAX] {
             for name in ODD_NAMES.into_iter().chain(names.iter().take(2).map(Vec::as_slice)) {
                 self.lookup(frame, name);
             }

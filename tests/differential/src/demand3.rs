@@ -2,8 +2,9 @@
 
 use crate::ask::Ask;
 use crate::check::hex;
-use crate::images::{lawful_rows, Row};
+use crate::images::{frames_to_ask, lawful_rows, Row, GREATEST_FRAME};
 use crate::library::Library;
+use std::collections::BTreeMap;
 
 /// A call of a run: any bytes as a sheet, with the rows of one that is lawful for the run's image,
 /// and a limit.
@@ -23,14 +24,17 @@ impl Call {
 /// What a lookup finds: an entry in all its fields, and its chunk's bytes.
 type Found = Option<([u64; 7], Vec<u8>)>;
 
-/// What was found in a frame when it was first there, for each name; `None` where nothing was.
+/// What was found in a frame when it was first looked at, for each name; `None` where nothing was.
 type Frame = Vec<Found>;
 
 pub struct Run<'l> {
     library: &'l dyn Library,
     /// Every name that the run may ask for: listed at the start, of any sheet, and of none.
     names: Vec<Vec<u8>>,
-    frames: Vec<Frame>,
+    /// The number of frames: the start's, and one for each last store made.
+    count: u64,
+    /// The frames that are looked at, those of the run among them. No entry may name another.
+    frames: BTreeMap<u64, Frame>,
     pub moments: u64,
 }
 
@@ -39,7 +43,7 @@ impl<'l> Run<'l> {
     /// which of the paper's words failed, and on what.
     pub fn make(library: &'l dyn Library, start: &[u8], calls: &[Call]) -> Result<u64, String> {
         let counts = library.counts(start);
-        let [frames, names, _] = counts.map_err(|n| format!("the start is refused with {n}"))?;
+        let [count, names, _] = counts.map_err(|n| format!("the start is refused with {n}"))?;
         let listed = (0..names).map(|n| library.nth_name(start, n).unwrap_or_default().to_vec());
         let rows = calls.iter().flat_map(|call| call.rows.iter().flatten());
         let mut all: Vec<_> = listed.chain(rows.map(|row| row.name.clone())).collect();
@@ -47,10 +51,10 @@ impl<'l> Run<'l> {
         all.sort();
         all.dedup();
 
-        let mut run = Run { library, names: all, frames: Vec::new(), moments: 1 };
-        for frame in 0..frames {
+        let mut run = Run { library, names: all, count, frames: BTreeMap::new(), moments: 1 };
+        for frame in frames_to_ask(&run.named(start)?, count) {
             let found = run.look(start, frame)?;
-            run.frames.push(found);
+            run.frames.insert(frame, found);
         }
         let mut image = start.to_vec();
         for (number, call) in calls.iter().enumerate() {
@@ -69,14 +73,12 @@ impl<'l> Run<'l> {
     fn call(&mut self, image: &mut Vec<u8>, call: &Call) -> Result<(), String> {
         let before = image.clone();
         let stores = self.library.put(image, &call.sheet, call.limit);
-        // The image opens: what refuses is the sheet, or that the image is no place for it.
-        let lawful = call.rows.is_some();
-        let expected = if lawful { &[21, 28, 29][..] } else { &[21, 22, 23, 24, 25, 26, 27] };
+        let (lawful, full) = (call.rows.is_some(), self.count > GREATEST_FRAME);
         let ([done, whole], rows) = match (stores, &call.rows) {
-            (Ok(stores), Some(rows)) => (stores, rows),
+            (Ok(stores), Some(rows)) if !full => (stores, rows),
             (Err(_), _) if *image != before => return Err("a refusal wrote".into()),
-            (Err(number), _) if expected.contains(&number) => return Ok(()),
-            _ => return Err(format!("answers {stores:?}; a lawful sheet: {lawful}")),
+            (Err(number), _) if refusals(lawful, full).contains(&number) => return Ok(()),
+            _ => return Err(format!("{stores:?}; a lawful sheet: {lawful}; full: {full}")),
         };
         if done != whole.min(call.limit) {
             return Err(format!("done {done} of {whole}"));
@@ -89,7 +91,8 @@ impl<'l> Run<'l> {
             if store < 64 || store + 64 > whole || store % 7 == 0 {
                 if store == whole {
                     let frame = self.requested(&next, rows)?;
-                    self.frames.push(frame);
+                    self.frames.insert(self.count, frame);
+                    self.count += 1;
                 }
                 self.moment(&next)
                     .map_err(|what| format!("after {store} stores of {whole}: {what}"))?;
@@ -104,16 +107,20 @@ impl<'l> Run<'l> {
     }
 
     /// Found stays found, with the same entry and bytes; none found stays none; and the number of
-    /// frames is the start's and one for each last store made.
+    /// frames is as counted.
     fn moment(&mut self, image: &[u8]) -> Result<(), String> {
         self.moments += 1;
         let counts = self.library.counts(image);
         let [frames, ..] = counts.map_err(|number| format!("refused with {number}"))?;
-        if frames != self.frames.len() as u64 {
-            return Err(format!("{frames} frames, expected {}", self.frames.len()));
+        if frames != self.count {
+            return Err(format!("{frames} frames, expected {}", self.count));
         }
-        for (number, frame) in self.frames.iter().enumerate() {
-            let now = self.look(image, number as u64)?;
+        let named = self.named(image)?;
+        if let Some(other) = named.iter().find(|frame| !self.frames.contains_key(frame)) {
+            return Err(format!("an entry names frame {other}, which was empty"));
+        }
+        for (&number, frame) in &self.frames {
+            let now = self.look(image, number)?;
             if let Some(at) = (0..now.len()).find(|&at| now[at] != frame[at]) {
                 let (name, then, now) = (hex(&self.names[at]), &frame[at], &now[at]);
                 return Err(format!("frame {number} name {name}: {now:?}, before {then:?}"));
@@ -126,6 +133,10 @@ impl<'l> Run<'l> {
             }
         }
         Ok(())
+    }
+
+    fn named(&self, image: &[u8]) -> Result<Vec<u64>, String> {
+        self.library.named_frames(image).map_err(|number| format!("an entry refused with {number}"))
     }
 
     /// What each name finds in a frame that is there.
@@ -145,7 +156,7 @@ impl<'l> Run<'l> {
 
     /// The new frame, complete and exactly as requested.
     fn requested(&self, image: &[u8], rows: &[Row]) -> Result<Frame, String> {
-        let number = self.frames.len() as u64;
+        let number = self.count;
         let frame = self.look(image, number)?;
         for (name, found) in self.names.iter().zip(&frame) {
             let row = rows.iter().find(|row| row.name == *name);
@@ -162,6 +173,16 @@ impl<'l> Run<'l> {
             }
         }
         Ok(frame)
+    }
+}
+
+/// Of an image that opens: what refuses is that no frame is left, the sheet, or that the image is
+/// no place for it.
+fn refusals(lawful: bool, full: bool) -> &'static [u64] {
+    match lawful {
+        _ if full => &[21, 31],
+        true => &[21, 28, 29],
+        false => &[21, 22, 23, 24, 25, 26, 27],
     }
 }
 

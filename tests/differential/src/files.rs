@@ -1,7 +1,7 @@
 //! Files that the real GSD library wrote, with its own reading of them (tests/files/README.md).
 
 use crate::ask::Ask;
-use crate::images::{get64, sheet, Row};
+use crate::images::{frames_to_ask, get64, sheet, Row};
 use crate::library::Library;
 use std::path::{Path, PathBuf};
 use std::{fs, io};
@@ -155,6 +155,7 @@ fn grow(library: &dyn Library, file: &[u8]) {
         return;
     };
     let [frames, names, entries] = library.counts(&image).unwrap();
+    let asked = frames_to_ask(&library.named_frames(&image).unwrap(), frames);
     for limit in [0, 1, whole / 2, whole - 1, whole] {
         let (after, _) = library.after(&image, &sheet, limit);
         assert_eq!(after[44..48], image[44..48]);
@@ -166,7 +167,7 @@ fn grow(library: &dyn Library, file: &[u8]) {
         for n in 0..names {
             let name = library.nth_name(&image, n).unwrap();
             assert_eq!(library.nth_name(&after, n), Ok(name));
-            for frame in 0..frames.min(50) {
+            for &frame in asked.iter().take(50) {
                 assert_eq!(library.bytes(&after, frame, name), library.bytes(&image, frame, name));
             }
         }

@@ -1,10 +1,12 @@
 //! Random images and sheets: lawful, odd and damaged.
 
 use crate::images::{
-    blank, last_type, put32, put64, put_names, put_slots, sheet, size, Row, Slot, V2_1, VERSIONS,
+    blank, get64, last_type, put32, put64, put_names, put_slots, sheet, size, version, Row, Slot,
+    GREATEST_FRAME, V2_1, VERSIONS,
 };
 use crate::library::{Create, Library, Reference};
 use crate::random::Rng;
+use crate::reference;
 
 /// Names whose lengths lie around words and segments; some begin alike.
 const NAMES: [&[u8]; 20] = [
@@ -49,6 +51,52 @@ pub fn names(rng: &mut Rng, count: usize) -> Vec<Vec<u8>> {
         }
     }
     names
+}
+
+/// The first frames, those about the last one that opens, and those with which 65,536 times the
+/// frame wraps in 64 bits.
+const FRAMES: [u64; 13] = [
+    0,
+    1,
+    2,
+    3,
+    GREATEST_FRAME - 2,
+    GREATEST_FRAME - 1,
+    GREATEST_FRAME,
+    GREATEST_FRAME + 1,
+    GREATEST_FRAME + 2,
+    1 << 48,
+    (1 << 48) + 1,
+    1 << 63,
+    u64::MAX,
+];
+
+/// Frame and id of at most so many entries, rising: mostly frame after frame, with some left out at
+/// the start, in the middle, or up to one of the last.
+fn keys(rng: &mut Rng, most: usize, names: usize) -> Vec<(u64, u16)> {
+    let mut keys: Vec<(u64, usize)> = Vec::new();
+    while keys.len() < most && names > 0 && rng.chance(80) {
+        let least = keys.last().map_or(0, |key| key.0 + 1);
+        let in_frame = keys.last().map(|&(frame, id)| (frame, id + 1 + rng.below(2)));
+        match in_frame.filter(|&(_, id)| id < names && rng.chance(70)) {
+            Some(key) => keys.push(key),
+            None if least > GREATEST_FRAME => break,
+            None => keys.push((frame_from(rng, least), rng.below(names))),
+        }
+    }
+    keys.into_iter().map(|(frame, id)| (frame, id as u16)).collect()
+}
+
+/// A frame that opens, at least this one.
+fn frame_from(rng: &mut Rng, least: u64) -> u64 {
+    let frame = match rng.below(12) {
+        0 => least + 1,
+        1 => least + rng.below(4) as u64,
+        2 => GREATEST_FRAME - rng.below(4) as u64,
+        3 => least + (rng.number() >> rng.between(32, 60)),
+        _ => least,
+    };
+    frame.clamp(least, GREATEST_FRAME)
 }
 
 /// A version that opens, one near it, or any.
@@ -140,6 +188,48 @@ pub fn rows(rng: &mut Rng, version: u32, known: &[Vec<u8>]) -> Vec<Row> {
     rows
 }
 
+/// An image made by appends, and the names in it; then frames are left out at the start or in the
+/// middle, some or as many as put the last one at the end.
+pub fn gapped(rng: &mut Rng) -> (Vec<u8>, Vec<Vec<u8>>) {
+    let mut image = fresh(rng);
+    let room = rng.pick(&[1000, 3000]);
+    image.extend(rng.bytes(room));
+    let mut known = Vec::new();
+    for _ in 0..rng.between(1, 3) {
+        let mut rows = rows(rng, version(&image), &known);
+        rows.truncate(3);
+        // Some are refused: 2.0 takes no character.
+        if reference::append(&mut image, &sheet(&rows), u64::MAX).is_ok() {
+            known.extend(rows.into_iter().map(|row| row.name));
+        }
+    }
+    known.sort();
+    known.dedup();
+    leave_out(rng, &mut image);
+    (image, known)
+}
+
+/// Gives higher numbers to the frames from one of them on.
+fn leave_out(rng: &mut Rng, image: &mut [u8]) {
+    let counts = reference::open(image).unwrap();
+    let Some(last) = counts.frames.checked_sub(1) else {
+        return;
+    };
+    let first = rng.number() % counts.frames;
+    let more = match rng.below(3) {
+        0 => rng.between(1, 5) as u64,
+        _ => GREATEST_FRAME - rng.below(4) as u64 - last,
+    };
+    let index = get64(image, 8) as usize;
+    for slot in 0..counts.entries as usize {
+        let at = index + 32 * slot;
+        let frame = get64(image, at);
+        if frame >= first {
+            put64(image, at, frame + more);
+        }
+    }
+}
+
 /// A limit of stores, of all kinds.
 pub fn limit(rng: &mut Rng) -> u64 {
     match rng.below(10) {
@@ -162,12 +252,12 @@ pub struct Layout {
 
 /// An image built field by field that opens, however odd: of either version; blocks in either order,
 /// at odd places, touching, empty or at the slice's end; chunks before, between and behind them,
-/// sharing bytes, empty anywhere; leftovers behind both lists.
+/// sharing bytes, empty anywhere; frames left out; leftovers behind both lists.
 pub fn odd(rng: &mut Rng) -> Layout {
     let slots = rng.pick(&[0, 1, 1, 2, 2, 3, 4, 6]);
     let segments = rng.pick(&[0, 1, 1, 1, 2, 3]);
     let unit = if rng.chance(70) { 8 } else { 1 };
-    let gap = |rng: &mut Rng| match rng.below(3) {
+    let between = |rng: &mut Rng| match rng.below(3) {
         0 => 0,
         _ => unit * rng.below(48),
     };
@@ -175,8 +265,8 @@ pub fn odd(rng: &mut Rng) -> Layout {
     let first = usize::from(rng.chance(50));
     let second = 1 - first;
     let mut starts = [0; 2];
-    starts[first] = 256 + gap(rng);
-    starts[second] = starts[first] + sizes[first] + gap(rng);
+    starts[first] = 256 + between(rng);
+    starts[second] = starts[first] + sizes[first] + between(rng);
     let used = starts[second] + sizes[second];
     // At the slice's end, or with room behind.
     let length = match rng.below(4) {
@@ -236,15 +326,8 @@ pub fn odd(rng: &mut Rng) -> Layout {
         free.push((at, image.len()));
         free
     };
-    let mut entries = Vec::new();
-    let mut next = (0_u64, 0_usize);
-    while entries.len() < slots && !listed.is_empty() && rng.chance(80) {
-        let (mut frame, mut id) = next;
-        id += rng.below(2);
-        if id >= listed.len() || rng.chance(30) && !entries.is_empty() {
-            (frame, id) =
-                (entries.last().map_or(0, |e: &Slot| e.frame + 1), rng.below(listed.len()));
-        }
+    let mut entries: Vec<Slot> = Vec::new();
+    for (frame, id) in keys(rng, slots, listed.len()) {
         let (start, end) = rng.pick(&free);
         let location = start + rng.below(end - start + 1);
         let room = rng.pick(&[end - location, (end - location).min(20)]);
@@ -252,14 +335,13 @@ pub fn odd(rng: &mut Rng) -> Layout {
         let empty = n == 0 || m == 0;
         let location = if empty { rng.between(256, image.len()) } else { location };
         let flags = if rng.chance(30) { rng.byte() } else { 0 };
-        entries.push(Slot { frame, n, location: location as u64, m, id: id as u16, kind, flags });
-        next = (frame, id + 1);
+        entries.push(Slot { frame, n, location: location as u64, m, id, kind, flags });
     }
     put_slots(&mut image, index, &entries);
     for behind in entries.len()..slots {
         let at = index + 32 * behind;
         if rng.chance(50) && behind > entries.len() && !entries.is_empty() {
-            // A leftover that would be lawful.
+            // A leftover that would be lawful, but behind the last frame.
             let last = entries[entries.len() - 1];
             Slot { frame: last.frame + 1, ..last }.put(&mut image, at);
         } else if rng.chance(50) {
@@ -273,6 +355,23 @@ pub fn odd(rng: &mut Rng) -> Layout {
     Layout { image, names: listed, index, name_block, entries: entries.len(), list_end: at }
 }
 
+/// An odd image whose entries, one at least, are put into the first frames, the last ones or far
+/// behind; mostly they rise.
+pub fn spread(rng: &mut Rng) -> Layout {
+    let mut layout = odd(rng);
+    while layout.entries == 0 {
+        layout = odd(rng);
+    }
+    let mut frames: Vec<_> = (0..layout.entries).map(|_| rng.pick(&FRAMES)).collect();
+    if rng.chance(80) {
+        frames.sort_unstable();
+    }
+    for (n, frame) in frames.into_iter().enumerate() {
+        put64(&mut layout.image, layout.index.0 + 32 * n, frame);
+    }
+    layout
+}
+
 impl Layout {
     /// Changes one or two fields to numbers near borders.
     pub fn bend(&mut self, rng: &mut Rng) {
@@ -281,7 +380,7 @@ impl Layout {
                 let slot = self.index.0 + 32 * rng.below(self.entries);
                 let near = self.near(rng);
                 match rng.below(9) {
-                    0 => put64(&mut self.image, slot, rng.pick(&[0, 1, 2, 3, u64::MAX])),
+                    0 => put64(&mut self.image, slot, rng.pick(&FRAMES)),
                     1 => put64(&mut self.image, slot + 8, rng.border()),
                     2 => put64(&mut self.image, slot + 16, near),
                     3 => self.image[slot + 24 + rng.below(4)] = rng.byte(),

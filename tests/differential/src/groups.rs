@@ -4,7 +4,8 @@ use crate::check::{names_of, Check};
 use crate::demand3::{Call, Run};
 use crate::generate::{self, Layout};
 use crate::images::{
-    blank, get64, put32, put64, put_names, put_slots, sheet, version, Row, Slot, MAGIC, VERSIONS,
+    blank, frames_to_ask, get64, put32, put64, put_names, put_slots, sheet, version, Row, Slot,
+    MAGIC, VERSIONS,
 };
 use crate::library::{Create, Library, Reference};
 use crate::random::Rng;
@@ -27,6 +28,7 @@ pub const GROUPS: &[Group] = &[
     group("random runs of appends", 6000, runs),
     group("every limit of small appends", 300, every_limit),
     group("images built field by field", 12_000, odd),
+    group("frames far apart", 20_000, far_frames),
     group("fields near borders", 60_000, bent),
     group("one to three damaged bytes", 60_000, damaged),
     group("random bytes", 10_000, random_bytes),
@@ -37,6 +39,7 @@ pub const GROUPS: &[Group] = &[
     group("a long index", 10, long_index),
     group("the longest slices", 1, longest),
     group("a run of appends, word for word", 1000, demand3),
+    group("a run of appends over gaps, word for word", 500, gap_runs),
     group("searches in lists of many lengths", 400, searches),
 ];
 
@@ -217,6 +220,28 @@ fn bent(check: &mut Check, rng: &mut Rng) {
     changed(check, rng, layout);
 }
 
+/// Entries in the first frames, the last ones or far behind, with appends of good and bad sheets.
+fn far_frames(check: &mut Check, rng: &mut Rng) {
+    let mut layout = generate::spread(rng);
+    if rng.chance(40) {
+        layout.bend(rng);
+    }
+    check.load(&layout.image);
+    check.read_all(&layout.names);
+    for _ in 0..2 {
+        let mut rows = generate::rows(rng, version(&layout.image), &layout.names);
+        rows.truncate(3);
+        let sheet = match rng.below(5) {
+            0 => Vec::new(),
+            1 => generate::damaged_sheet(rng, &rows),
+            _ => sheet(&rows),
+        };
+        if check.append(&sheet, generate::limit(rng)).is_some() {
+            check.read_all(&names_of(&rows));
+        }
+    }
+}
+
 fn damaged(check: &mut Check, rng: &mut Rng) {
     let mut layout = generate::odd(rng);
     layout.damage(rng);
@@ -365,13 +390,24 @@ fn night(check: &mut Check, rng: &mut Rng) {
     }
 }
 
-/// Up to 16 names, and an image with so many frames of them: all are in all frames, or some are
-/// left out anywhere. Behind the list are up to two more slots.
-fn indexed(rng: &mut Rng, frames: usize, names: usize) -> (Vec<Vec<u8>>, Vec<u8>) {
+/// So many frames, each the next, or with some left out before it.
+fn rising(rng: &mut Rng, count: usize) -> Vec<u64> {
+    let most = rng.pick(&[0, 0, 1, 3, 1_000_000]);
+    let mut next = 0;
+    let frame = |_| {
+        next += rng.below(most + 1) as u64 + 1;
+        next - 1
+    };
+    (0..count).map(frame).collect()
+}
+
+/// Up to 16 names, and an image with these frames of them: all are in all frames, or some are
+/// missing anywhere. Behind the list are up to two more slots.
+fn indexed(rng: &mut Rng, frames: &[u64], names: usize) -> (Vec<Vec<u8>>, Vec<u8>) {
     let listed: Vec<_> = (0..names).map(|n| format!("name {n:02}").into_bytes()).collect();
     let percent = rng.pick(&[0, 50, 90, 100]);
-    let mut entries = Vec::with_capacity(frames * names + 2);
-    for frame in 0..frames as u64 {
+    let mut entries = Vec::with_capacity(frames.len() * names + 2);
+    for &frame in frames {
         let at_least = rng.below(names);
         for id in 0..names {
             if id == at_least || rng.chance(percent) {
@@ -385,7 +421,7 @@ fn indexed(rng: &mut Rng, frames: usize, names: usize) -> (Vec<Vec<u8>>, Vec<u8>
         entry.location = data as u64 + entry.frame % 4000;
     }
     // The list's end, and a leftover that would be lawful.
-    let next = Slot::bytes(frames as u64, 0, data as u64, 4);
+    let next = Slot::bytes(frames.last().map_or(0, |last| last + 1), 0, data as u64, 4);
     entries.extend([Slot { location: 0, ..next }, next]);
     let mut image = blank(data + 4096, 256, slots as u64, (data - 128) as u64, 2);
     put32(&mut image, 44, rng.pick(&VERSIONS));
@@ -394,13 +430,15 @@ fn indexed(rng: &mut Rng, frames: usize, names: usize) -> (Vec<Vec<u8>>, Vec<u8>
     (listed, image)
 }
 
-/// Every name in every frame, and beside them.
+/// Every name in every frame that has chunks, and beside them.
 fn searches(check: &mut Check, rng: &mut Rng) {
-    let frames = rng.below(24);
+    let count = rng.below(24);
+    let frames = rising(rng, count);
     let names = rng.between(1, 16);
-    let (listed, image) = indexed(rng, frames, names);
+    let (listed, image) = indexed(rng, &frames, names);
     check.load(&image);
-    for frame in 0..=frames as u64 {
+    let behind = frames.last().map_or(0, |last| last + 1);
+    for frame in frames_to_ask(&frames, behind + 1) {
         for name in listed.iter().map(Vec::as_slice).chain([&b"no such name"[..]]) {
             check.lookup(frame, name);
         }
@@ -409,17 +447,19 @@ fn searches(check: &mut Check, rng: &mut Rng) {
 
 /// Thousands of entries, with something wrong near their end or not.
 fn long_index(check: &mut Check, rng: &mut Rng) {
-    let (frames, names) = (rng.between(1000, 2500), 16);
-    let (listed, mut image) = indexed(rng, frames, names);
+    let count = rng.between(1000, 2500);
+    let (frames, names) = (rising(rng, count), 16);
+    let (listed, mut image) = indexed(rng, &frames, names);
     let slots = get64(&image, 16) as usize;
     check.load(&image);
     check.open();
-    for frame in [0, frames - 1] {
-        check.lookup(frame as u64, &listed[0]);
-        check.lookup(frame as u64, &listed[names - 1]);
+    for frame in [0, frames[0], frames[count - 1]] {
+        check.lookup(frame, &listed[0]);
+        check.lookup(frame, &listed[names - 1]);
     }
     for _ in 0..40 {
-        check.read(rng.below(frames + 2) as u64, &listed[rng.below(names)]);
+        let frame = rng.pick(&frames) + rng.below(3) as u64;
+        check.read(frame, &listed[rng.below(names)]);
         check.entry(rng.below(slots + 2) as u64);
     }
     check.append(&sheet(&[Row::bytes(b"name 03", b"12345"), Row::bytes(b"new", b"")]), u64::MAX);
@@ -502,18 +542,27 @@ fn longest(check: &mut Check, _: &mut Rng) {
 
 fn demand3(check: &mut Check, rng: &mut Rng) {
     let (image, known) = start(rng);
+    run_from(check, rng, &image, &known);
+}
+
+fn gap_runs(check: &mut Check, rng: &mut Rng) {
+    let (image, known) = generate::gapped(rng);
+    run_from(check, rng, &image, &known);
+}
+
+fn run_from(check: &mut Check, rng: &mut Rng, image: &[u8], known: &[Vec<u8>]) {
     let calls: Vec<_> = (0..rng.between(1, 6))
         .map(|_| {
-            let mut rows = generate::rows(rng, version(&image), &known);
+            let mut rows = generate::rows(rng, version(image), known);
             rows.truncate(3);
             let sheet = match rng.below(8) {
                 0 => generate::damaged_sheet(rng, &rows),
                 _ => sheet(&rows),
             };
-            Call::new(version(&image), sheet, generate::limit(rng))
+            Call::new(version(image), sheet, generate::limit(rng))
         })
         .collect();
-    match Run::make(check.library(), &image, &calls) {
+    match Run::make(check.library(), image, &calls) {
         Ok(moments) => check.moments += moments,
         Err(what) => check.fail(|| what),
     }

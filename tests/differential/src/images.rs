@@ -1,5 +1,7 @@
 //! Images and sheets written field by field, lawful or not.
 
+use std::collections::BTreeSet;
+
 pub const MAGIC: [u8; 8] = [0xDF, 0x65, 0xDF, 0x65, 0xDF, 0x65, 0xDF, 0x65];
 
 pub const V2_0: u32 = 0x0002_0000;
@@ -7,6 +9,17 @@ pub const V2_1: u32 = 0x0002_0001;
 
 /// Those that open.
 pub const VERSIONS: [u32; 2] = [V2_0, V2_1];
+
+/// No image that opens has a frame above.
+pub const GREATEST_FRAME: u64 = 4_294_967_294;
+
+/// Of so many frames those to look at: the ones that entries name, those next to them, the ends and
+/// the middle. Two entries can make 4,294,967,295 frames, so nothing may go from frame to frame.
+pub fn frames_to_ask(named: &[u64], frames: u64) -> BTreeSet<u64> {
+    let near = |&frame: &u64| [frame.saturating_sub(1), frame, frame.saturating_add(1)];
+    let others = [0, frames / 2, frames.saturating_sub(1)];
+    named.iter().flat_map(near).chain(others).filter(|&frame| frame < frames).collect()
+}
 
 pub fn put16(bytes: &mut [u8], at: usize, number: u16) {
     bytes[at..at + 2].copy_from_slice(&number.to_le_bytes());

@@ -5,6 +5,7 @@
 //! builder's [`Fault`], so that the tests can be tested: each must be noticed.
 
 use crate::library::{Create, Library};
+use std::collections::BTreeSet;
 
 macro_rules! faults {
     ($($fault:ident,)*) => {
@@ -30,13 +31,26 @@ faults! {
     LocationUnsigned,
     TypeZeroKnown,
     LowestNumberOfAllEntries,
-    FrameMaySkip,
+    GapsRefused,
+    FirstFrameAboveZeroRefused,
+    FrameMayFall,
     IdsMayBeEqual,
+    KeyWraps,
     ChunkSizeWraps,
     ChunkEndWraps,
     EmptyChunkSharesBytes,
     SeventeenOfIndexOnly,
     OverlappingChunksRefused,
+    EighteenLeftOut,
+    EighteenFromOneLess,
+    EighteenFromOneMore,
+    EighteenBeforeTwelve,
+    EighteenBeforeSixteen,
+    EighteenBeforeSeventeen,
+    EighteenAtListEnd,
+    FramesDistinct,
+    EmptyFrameNotThere,
+    LookupFrameWraps,
     LookupPastLastFrame,
     ElementPlaceWraps,
     SignedNotExtended,
@@ -47,6 +61,11 @@ faults! {
     CreateClearsAll,
     CreateKeepsReserved,
     EmptyBlocksMayBeOdd,
+    ThirtyOneLeftOut,
+    ThirtyOneFromOneLess,
+    ThirtyOneBeforeTwentyOne,
+    ThirtyOneAfterTwentyTwo,
+    ThirtyOneAfterTwentyNine,
     RowsUpTo65,
     RowSizeWraps,
     TwentySevenBeforeTwentySix,
@@ -76,6 +95,7 @@ faults! {
     AllStoresAtOnce,
     DoneCountsChanges,
     EmptyChunkAtEndOfUse,
+    AppendFillsGap,
     VersionByMajor,
     CharacterKnownIn2_0,
     CharacterUnknownIn2_1,
@@ -168,6 +188,11 @@ impl Listed {
 /// "The list is sorted by frame and id."
 type Key = (u128, u128);
 
+/// The frames that entries name, each once.
+fn named(entries: &[Listed]) -> BTreeSet<u128> {
+    entries.iter().map(|entry| entry.frame).collect()
+}
+
 /// Binary digits, none for 0.
 fn digits(number: usize) -> usize {
     (0..usize::BITS).take_while(|power| number >> power > 0).count()
@@ -194,12 +219,7 @@ struct View {
     names: Vec<(usize, usize)>,
     list_end: usize,
     entries: Vec<Listed>,
-}
-
-impl View {
-    fn frames(&self) -> u128 {
-        self.entries.last().map_or(0, |entry| entry.frame + 1)
-    }
+    frames: u128,
 }
 
 /// What an entry is tested against.
@@ -338,7 +358,19 @@ impl Model {
         if let Some(verdict) = worst {
             return Err(verdict);
         }
-        Ok(View { version, index, slots, names_at, segments, names, list_end, entries })
+        if self.has(Fault::EighteenAtListEnd) && entries.iter().any(|entry| self.late(entry)) {
+            return Err(18);
+        }
+        let frames = self.frames(&entries);
+        Ok(View { version, index, slots, names_at, segments, names, list_end, entries, frames })
+    }
+
+    /// "The number of frames stays the last entry's frame plus 1."
+    fn frames(&self, entries: &[Listed]) -> u128 {
+        if self.has(Fault::FramesDistinct) {
+            return named(entries).len() as u128;
+        }
+        entries.last().map_or(0, |last| last.frame + 1)
     }
 
     /// "A type is now known by the image's version, 11 in 2.1 only."
@@ -369,7 +401,35 @@ impl Model {
         }
     }
 
+    /// "15 is now given only when (frame, id) isn't above the entry before", both as one number.
+    fn follows(&self, entry: &Listed, before: Option<&Listed>) -> bool {
+        let Some(before) = before else {
+            return entry.frame == 0 || !self.has(Fault::FirstFrameAboveZeroRefused);
+        };
+        let [key, key_before] = [entry, before]
+            .map(|entry| self.wrap(Fault::KeyWraps, 65_536 * entry.frame + entry.id));
+        match self.fault {
+            Some(Fault::GapsRefused) if entry.frame > before.frame + 1 => false,
+            Some(Fault::FrameMayFall) if entry.id > before.id => true,
+            Some(Fault::IdsMayBeEqual) => key >= key_before,
+            _ => key > key_before,
+        }
+    }
+
+    /// "New 18, after 17 for the same entry: frame above 4,294,967,294."
+    fn late(&self, entry: &Listed) -> bool {
+        match self.fault {
+            Some(Fault::EighteenLeftOut) => false,
+            Some(Fault::EighteenFromOneLess) => entry.frame > 4_294_967_293,
+            Some(Fault::EighteenFromOneMore) => entry.frame > 4_294_967_295,
+            _ => entry.frame > 4_294_967_294,
+        }
+    }
+
     fn entry_verdict(&self, entry: &Listed, before: &[Listed], limits: &Limits) -> u64 {
+        if self.late(entry) && self.has(Fault::EighteenBeforeTwelve) {
+            return 18;
+        }
         let negative = entry.location >= 1 << 63 && !self.has(Fault::LocationUnsigned);
         if entry.location < 256 || negative {
             return 12;
@@ -380,23 +440,19 @@ impl Model {
         if entry.id >= limits.names {
             return 14;
         }
-        let in_order = match before.last() {
-            None => entry.frame == 0,
-            Some(last) => {
-                let same_id = self.has(Fault::IdsMayBeEqual) && entry.id == last.id;
-                let skips = self.has(Fault::FrameMaySkip) && entry.frame > last.frame;
-                entry.frame == last.frame && (entry.id > last.id || same_id)
-                    || entry.frame == last.frame + 1
-                    || skips
-            }
-        };
-        if !in_order {
+        if !self.follows(entry, before.last()) {
             return 15;
+        }
+        if self.late(entry) && self.has(Fault::EighteenBeforeSixteen) {
+            return 18;
         }
         let bytes = self.wrap(Fault::ChunkSizeWraps, entry.length());
         let end = self.wrap(Fault::ChunkEndWraps, entry.location + bytes);
         if end > limits.length {
             return 16;
+        }
+        if self.late(entry) && self.has(Fault::EighteenBeforeSeventeen) {
+            return 18;
         }
         let chunk = (entry.location, end);
         let empty_counts = self.has(Fault::EmptyChunkSharesBytes);
@@ -410,6 +466,9 @@ impl Model {
         };
         if self.has(Fault::OverlappingChunksRefused) && before.iter().any(meets) {
             return 17;
+        }
+        if self.late(entry) && !self.has(Fault::EighteenAtListEnd) {
+            return 18;
         }
         0
     }
@@ -427,10 +486,14 @@ impl Model {
         };
         let listed = |&(at, length): &(usize, usize)| &image[at..at + length] == name;
         let id = view.names.iter().position(listed);
-        let key = (u128::from(frame), id.unwrap_or(view.names.len()) as u128);
+        let wraps = self.has(Fault::LookupFrameWraps);
+        let frame = u128::from(if wraps { frame % (1 << 32) } else { frame });
+        let key = (frame, id.unwrap_or(view.names.len()) as u128);
         let past = u128::from(self.has(Fault::LookupPastLastFrame));
+        let there = || named(&view.entries).contains(&frame);
         let number = match id {
-            _ if key.0 >= view.frames() + past => 40,
+            _ if frame >= view.frames + past => 40,
+            _ if self.has(Fault::EmptyFrameNotThere) && !there() => 40,
             None => 41,
             Some(_) => 0,
         };
@@ -501,7 +564,7 @@ impl Model {
         [vec![middle], rest].concat()
     }
 
-    fn rows<'s>(&self, sheet: &'s [u8], version: u128) -> Verdict<Vec<Row<'s>>> {
+    fn row_count(&self, sheet: &[u8]) -> Verdict<usize> {
         if sheet.len() < 4 {
             return Err(22);
         }
@@ -509,7 +572,11 @@ impl Model {
         if count == 0 || count > 64 + u128::from(self.has(Fault::RowsUpTo65)) {
             return Err(22);
         }
-        let count = count as usize;
+        Ok(count as usize)
+    }
+
+    fn rows<'s>(&self, sheet: &'s [u8], version: u128) -> Verdict<Vec<Row<'s>>> {
+        let count = self.row_count(sheet)?;
         if sheet.len() < 4 + 16 * count {
             return Err(23);
         }
@@ -564,15 +631,44 @@ impl Model {
         Ok(rows)
     }
 
+    /// "New 31, after 21 and before 22: the last frame is 4,294,967,294."
+    fn full(&self, view: &View) -> bool {
+        let last = view.entries.last().map(|entry| entry.frame);
+        match self.fault {
+            Some(Fault::ThirtyOneLeftOut) => false,
+            Some(Fault::ThirtyOneFromOneLess) => last >= Some(4_294_967_293),
+            _ => last == Some(4_294_967_294),
+        }
+    }
+
+    /// The frame of an append's entries.
+    fn new_frame(&self, view: &View) -> u128 {
+        if self.has(Fault::AppendFillsGap) {
+            let named = named(&view.entries);
+            return (0..).find(|frame| !named.contains(frame)).unwrap();
+        }
+        view.frames
+    }
+
     /// The list of stores of an append.
     fn stores(&self, image: &[u8], sheet: &[u8]) -> Verdict<Vec<Store>> {
         let view = self.view(image)?;
+        let full = self.full(&view);
+        if full && self.has(Fault::ThirtyOneBeforeTwentyOne) {
+            return Err(31);
+        }
         let odd = |place: u128, count: u128| {
             let excused = self.has(Fault::EmptyBlocksMayBeOdd) && count == 0;
             !place.is_multiple_of(8) && !excused
         };
         if odd(view.index, view.slots) || odd(view.names_at, view.segments) {
             return Err(21);
+        }
+        if full && self.has(Fault::ThirtyOneAfterTwentyTwo) {
+            self.row_count(sheet)?;
+        }
+        if full && !self.has(Fault::ThirtyOneAfterTwentyNine) {
+            return Err(31);
         }
         let rows = self.rows(sheet, view.version)?;
 
@@ -656,6 +752,9 @@ impl Model {
             if self.has(Fault::FinalPositionNotPadded) && !moves { unpadded } else { position };
         if last > image.len() as u128 {
             return Err(29);
+        }
+        if full {
+            return Err(31);
         }
 
         // 1
@@ -753,7 +852,7 @@ impl Model {
         for slot in slots {
             let row = &rows[order[slot]];
             let mut entry = [0; 32];
-            entry[..8].copy_from_slice(&(view.frames() as u64).to_le_bytes());
+            entry[..8].copy_from_slice(&(self.new_frame(&view) as u64).to_le_bytes());
             entry[8..16].copy_from_slice(&(row.n as u64).to_le_bytes());
             entry[16..24].copy_from_slice(&(locations[order[slot]] as u64).to_le_bytes());
             entry[24..28].copy_from_slice(&(row.m as u32).to_le_bytes());
@@ -789,7 +888,7 @@ impl Library for Model {
     fn open(&self, image: &[u8], out: &mut [u64; 3]) -> u64 {
         let counts = self
             .view(image)
-            .map(|view| [view.frames() as u64, view.names.len() as u64, view.entries.len() as u64]);
+            .map(|view| [view.frames as u64, view.names.len() as u64, view.entries.len() as u64]);
         self.give(counts, out)
     }
 

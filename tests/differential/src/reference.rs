@@ -1,5 +1,5 @@
-//! Document 01 in plain Rust, with what document 02 has changed of it (W-201, W-202), written from
-//! the papers alone.
+//! Document 01 in plain Rust, with what document 02 has changed of it (W-201 to W-203), written
+//! from the papers alone.
 //!
 //! It is the independent second opinion of the differential tests and the baseline of the
 //! benchmark: a refusal is `Err` with its number, and nothing else is shared with the library.
@@ -17,6 +17,8 @@ const MOST_NAMES: usize = 1024;
 const MOST_ROWS: usize = 64;
 /// Longest list of slots or segments that create makes.
 const MOST_UNITS: u64 = 65_536;
+/// No entry has a frame above.
+const GREATEST_FRAME: u64 = 4_294_967_294;
 
 pub type Answer<T> = Result<T, u64>;
 
@@ -212,8 +214,7 @@ impl<'a> Image<'a> {
 
         let (slots, _) = bytes[index.start..index.end].as_chunks::<SLOT>();
         let mut listed = 0;
-        let mut frames = 0;
-        let mut last_id = 0;
+        let mut last: Option<(u64, u16)> = None;
         let mut end = index.end.max(names_block.end);
         for slot in slots {
             let entry = Entry::read(slot);
@@ -227,9 +228,7 @@ impl<'a> Image<'a> {
             if usize::from(entry.id) >= names.len() {
                 return Err(14);
             }
-            let opens_frame = entry.frame == frames;
-            let goes_on = frames > 0 && entry.frame == frames - 1 && entry.id > last_id;
-            if !opens_frame && !goes_on {
+            if last.is_some_and(|last| entry.key() <= last) {
                 return Err(15);
             }
             let chunk_end = bytes_of(entry.n, entry.m, size)
@@ -242,9 +241,11 @@ impl<'a> Image<'a> {
             if meets && location < chunk_end {
                 return Err(17);
             }
+            if entry.frame > GREATEST_FRAME {
+                return Err(18);
+            }
             end = end.max(chunk_end);
-            frames = entry.frame + 1;
-            last_id = entry.id;
+            last = Some(entry.key());
             listed += 1;
         }
         Ok(Image {
@@ -252,7 +253,7 @@ impl<'a> Image<'a> {
             version,
             index,
             entries: &slots[..listed],
-            frames,
+            frames: last.map_or(0, |(frame, _)| frame + 1),
             names_block,
             names,
             list_end,
@@ -521,6 +522,9 @@ impl<'s> Plan<'s> {
         let (index, names) = (image.index, image.names_block);
         if index.start % WORD != 0 || names.start % WORD != 0 {
             return Err(21);
+        }
+        if image.frames > GREATEST_FRAME {
+            return Err(31);
         }
         let rows = rows(sheet, image.version)?;
 

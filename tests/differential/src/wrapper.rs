@@ -2,7 +2,7 @@
 
 use crate::ask::Ask;
 use crate::generate;
-use crate::images::{sheet, size, version};
+use crate::images::{blank, frames_to_ask, put_names, sheet, size, version, Slot, GREATEST_FRAME};
 use crate::library::Linked;
 use crate::random::Rng;
 use dialmoth::{Element, Refusal, Row, Type};
@@ -44,30 +44,13 @@ pub fn hold() {
         assert_eq!((kind as usize, kind.size()), (at + 1, size(at as u8 + 1) as u64));
     }
     let mut rng = Rng::new(7);
-    for _ in 0..300 {
-        let mut image = generate::fresh(&mut rng);
-        let mut known = vec![b"no such name".to_vec()];
-        for _ in 0..4 {
-            let rows = generate::rows(&mut rng, version(&image), &known);
-            let own: Vec<_> = rows
-                .iter()
-                .map(|row| Row {
-                    name: &row.name,
-                    kind: TYPES[usize::from(row.kind) - 1],
-                    n: row.n,
-                    m: row.m,
-                    data: &row.data,
-                })
-                .collect();
-            let sheet = sheet(&rows);
-            assert_eq!(dialmoth::sheet(&own), sheet);
-            let limit = generate::limit(&mut rng);
-            let (after, stores) = Linked.after(&image, &sheet, limit);
-            let done = dialmoth::append(&mut image, &sheet, limit).map_err(number);
-            assert_eq!(done.map(|s| [s.done, s.whole]), stores);
-            assert_eq!(image, after);
-            known.extend(rows.into_iter().map(|row| row.name).take(4));
-        }
+    for round in 0..300 {
+        let (mut image, mut known) = match round % 2 {
+            0 => (generate::fresh(&mut rng), Vec::new()),
+            _ => generate::gapped(&mut rng),
+        };
+        known.push(b"no such name".to_vec());
+        appends(&mut rng, &mut image, &mut known);
         let counts = dialmoth::open(&image).map_err(number);
         assert_eq!(counts.map(|c| [c.frames, c.names, c.entries]), Linked.counts(&image));
         for n in 0..20 {
@@ -75,26 +58,72 @@ pub fn hold() {
             let entry = dialmoth::entry(&image, n).map(fields).map_err(number);
             assert_eq!(entry, Linked.nth_entry(&image, n));
         }
-        for (frame, name) in (0..5).flat_map(|frame| known.iter().map(move |name| (frame, name))) {
-            let found = dialmoth::lookup(&image, frame, name).map(fields).map_err(number);
-            assert_eq!(found, Linked.find(&image, frame, name));
-            let bytes = dialmoth::chunk(&image, frame, name).map_err(number);
-            assert_eq!(bytes, Linked.bytes(&image, frame, name));
-            let probes = dialmoth::probes(&image, frame, name);
-            assert_eq!(
-                (probes.refusal.map_or(0, number), probes.count),
-                Linked.probed(&image, frame, name)
-            );
-            for k in 0..3 {
-                let element = dialmoth::element(&image, frame, name, k);
-                let element = element.map(kind_and_bits).map_err(number);
-                assert_eq!(element, Linked.nth_element(&image, frame, name, k));
-            }
+        lookups(&image, &known);
+    }
+    created();
+    frames_run_out();
+}
+
+fn appends(rng: &mut Rng, image: &mut [u8], known: &mut Vec<Vec<u8>>) {
+    for _ in 0..4 {
+        let rows = generate::rows(rng, version(image), known);
+        let own: Vec<_> = rows
+            .iter()
+            .map(|row| Row {
+                name: &row.name,
+                kind: TYPES[usize::from(row.kind) - 1],
+                n: row.n,
+                m: row.m,
+                data: &row.data,
+            })
+            .collect();
+        let sheet = sheet(&rows);
+        assert_eq!(dialmoth::sheet(&own), sheet);
+        let limit = generate::limit(rng);
+        let (after, stores) = Linked.after(image, &sheet, limit);
+        let done = dialmoth::append(image, &sheet, limit).map_err(number);
+        assert_eq!(done.map(|s| [s.done, s.whole]), stores);
+        assert_eq!(*image, after);
+        known.extend(rows.into_iter().map(|row| row.name).take(4));
+    }
+}
+
+fn lookups(image: &[u8], known: &[Vec<u8>]) {
+    let named = Linked.named_frames(image).unwrap();
+    let behind = named.last().map_or(0, |last| last + 1);
+    let asked = frames_to_ask(&named, behind + 1);
+    for (frame, name) in asked.iter().flat_map(|&frame| known.iter().map(move |n| (frame, n))) {
+        let found = dialmoth::lookup(image, frame, name).map(fields).map_err(number);
+        assert_eq!(found, Linked.find(image, frame, name));
+        let bytes = dialmoth::chunk(image, frame, name).map_err(number);
+        assert_eq!(bytes, Linked.bytes(image, frame, name));
+        let probes = dialmoth::probes(image, frame, name);
+        assert_eq!(
+            (probes.refusal.map_or(0, number), probes.count),
+            Linked.probed(image, frame, name)
+        );
+        for k in 0..3 {
+            let element = dialmoth::element(image, frame, name, k);
+            let element = element.map(kind_and_bits).map_err(number);
+            assert_eq!(element, Linked.nth_element(image, frame, name, k));
         }
     }
+}
+
+fn created() {
     let mut image = [9; 400];
     assert_eq!(dialmoth::create(&mut image, b"a", b"s", 3, 2, 2), Err(Refusal(52)));
     assert_eq!(dialmoth::create(&mut image, b"a", b"s", 3, 2, 1), Ok(()));
     let counts = dialmoth::Counts { frames: 0, names: 0, entries: 0 };
     assert_eq!(dialmoth::open(&image), Ok(counts));
+}
+
+fn frames_run_out() {
+    let mut image = blank(512, 256, 2, 320, 1);
+    put_names(&mut image, 320, [&b"a"[..]]);
+    Slot::bytes(GREATEST_FRAME, 0, 384, 4).put(&mut image, 256);
+    assert_eq!(dialmoth::open(&image).map(|counts| counts.frames), Ok(4_294_967_295));
+    assert_eq!(dialmoth::append(&mut image, b"", 0), Err(Refusal::FRAMES_FULL));
+    Slot::bytes(GREATEST_FRAME + 1, 0, 384, 4).put(&mut image, 256);
+    assert_eq!(dialmoth::open(&image), Err(Refusal::LARGE_FRAME));
 }

@@ -67,8 +67,30 @@ fn a_run_of_appends_notices_what_breaks_it() {
         CharacterInNoSheet,
         AppendMakes2_1,
     ];
-    let number = GROUPS.iter().position(|group| group.name.contains("word for word")).unwrap();
-    for fault in faults {
+    run_notices("a run of appends, word for word", &faults);
+}
+
+/// The same from images with frames left out.
+#[test]
+fn a_run_of_appends_over_gaps_notices_what_breaks_it() {
+    use Fault::*;
+    let faults = [
+        GapsRefused,
+        FirstFrameAboveZeroRefused,
+        EighteenFromOneLess,
+        FramesDistinct,
+        EmptyFrameNotThere,
+        ThirtyOneLeftOut,
+        ThirtyOneFromOneLess,
+        AppendFillsGap,
+    ];
+    run_notices("a run of appends over gaps, word for word", &faults);
+}
+
+/// Panics unless the group notices each of these.
+fn run_notices(name: &str, faults: &[Fault]) {
+    let number = GROUPS.iter().position(|group| group.name == name).unwrap();
+    for &fault in faults {
         let model = Model { fault: Some(fault) };
         let mut check = Check::new(&model);
         check.show = false;

@@ -36,8 +36,8 @@ returns-3 c =
     let image-number = if2 .before in
     let if1 = image-number .before in
     let survey-of = if1 .before .before in
-    let even = sym (image-number .image-number .ensures) ∙ if2 .if2 .left in
-    bad-sheet _ _ _ _ (survey-of .survey-of .ensures) (if1 .if1 .left) even _ _ _ (sheet-rows .sheet-rows .ensures .0) (c .if3 .taken) refl
+    let ready = sym (image-number .image-number .ensures) ∙ if2 .if2 .left in
+    bad-sheet _ _ _ _ (survey-of .survey-of .ensures) (if1 .if1 .left) ready _ _ _ (sheet-rows .sheet-rows .ensures .0) (c .if3 .taken) refl
 
 plan-names-requires : tie.Need-plan-names-requires
 plan-names-requires c κs =
@@ -60,8 +60,8 @@ returns-4 c =
     let image-number = if2 .before in
     let if1 = image-number .before in
     let survey-of = if1 .before .before in
-    let even = sym (image-number .image-number .ensures) ∙ if2 .if2 .left in
-    plans-same _ _ _ _ _ _ (good-sheet _ _ _ _ (survey-of .survey-of .ensures) (if1 .if1 .left) even (sym (sheet-rows .sheet-rows .ensures .0) ∙ if3 .if3 .left)) (plan-names .plan-names .ensures)
+    let ready = sym (image-number .image-number .ensures) ∙ if2 .if2 .left in
+    plans-same _ _ _ _ _ _ (good-sheet _ _ _ _ (survey-of .survey-of .ensures) (if1 .if1 .left) ready (sym (sheet-rows .sheet-rows .ensures .0) ∙ if3 .if3 .left)) (plan-names .plan-names .ensures)
 
 pub plan-append-spec : {M : Type 1} → statement M
 plan-append-spec =

@@ -1,8 +1,7 @@
--- Tests 12 to 15 in their order.
+-- Tests 12 to 14 in their order.
 use mathlib.Core.Path.{sym, _∙_, ap}
 use mathlib.Core.Bool.{not}
 use borrow.Author.Tests.{lt-ltb, le-ltb, lt-leb, le-leb}
-use Rattle.gsd_format.specs.Refusals.{_⇒_}
 use Rattle.gsd_format.proofs.Refusals.{decides, goes-on, left-holds, right-decides, neither-of}
 use Rattle.gsd_open.specs.Index.{fieldsTest}
 use borrow.Author.Needs.{needs}
@@ -28,8 +27,11 @@ returns-3 c =
     let unknown = ap not (sym (c .before .known .ensures)) ∙ c .if3 .taken in
     sym (goes-on _ 12 _ place ∙ decides _ 12 _ unknown)
 
-cast-if4 : tie.Need-cast-if4
-cast-if4 c = search needs
+cast-refuse : tie.Need-cast-refuse
+cast-refuse c = search needs
+
+refuse-requires : tie.Need-refuse-requires
+refuse-requires c κs = search needs
 
 returns-4 : tie.Need-returns-4
 unfolding fieldsTest
@@ -38,36 +40,8 @@ returns-4 c =
     let two = three .before .before in
     let place = neither-of _ _ (le-ltb _ _ (two .before .before .if1 .left)) (lt-leb _ _ (two .if2 .left)) in
     let known = ap not (sym (three .before .known .ensures)) ∙ three .if3 .left in
-    sym (goes-on _ 12 _ place ∙ goes-on _ 13 _ known ∙ decides _ 13 _ (le-leb _ _ (c .if4 .taken)))
-
-follows-last-requires : tie.Need-follows-last-requires
-follows-last-requires c κs = search needs
-
-refuse-requires : tie.Need-refuse-requires
-refuse-requires c κs = search needs
-
-returns-5 : tie.Need-returns-5
-unfolding fieldsTest
-returns-5 c =
-    let four = c .before .before in
-    let three = four .before .before in
-    let two = three .before .before in
-    let place = neither-of _ _ (le-ltb _ _ (two .before .before .if1 .left)) (lt-leb _ _ (two .if2 .left)) in
-    let known = ap not (sym (three .before .known .ensures)) ∙ three .if3 .left in
-    let named = lt-leb _ _ (four .if4 .left) in
-    let order = ap (λ t. not t ⇒ 15) (sym (c .before .follows-last .ensures)) in
-    sym (goes-on _ 12 _ place ∙ goes-on _ 13 _ known ∙ goes-on _ 14 _ named ∙ order ∙ sym (c .refuse .ensures))
+    sym (goes-on _ 12 _ place ∙ goes-on _ 13 _ known ∙ sym (c .refuse .ensures))
 
 pub fields-number-spec : {M : Type 1} → statement M
 fields-number-spec =
-    tie.close
-    (tie.spec
-    returns
-    returns-2
-    known-requires
-    returns-3
-    cast-if4
-    returns-4
-    follows-last-requires
-    refuse-requires
-    returns-5)
+    tie.close (tie.spec returns returns-2 known-requires returns-3 cast-refuse refuse-requires returns-4)

@@ -31,12 +31,16 @@ walk-entries-requires c κs =
     let laid = c .before .before .before .before .before .before .pre .0 in
     (laid-blocks _ _ laid, (omega (arith, laid-length _ _ laid, laid-short _ _ laid), sym (laid-length _ _ laid)))
 
+frames-to-requires : tie.Need-frames-to-requires
+frames-to-requires c κs = c .walk-entries .ensures .high
+
 returns-2 : tie.Need-returns-2
 returns-2 c =
-    let named = c .before .before in
+    let walk = c .before in
+    let named = walk .before .before in
     let found = named .before .before in
-    let good = sym (named .names-number .ensures) ∙ c .before .if1 .left in
-    walked _ _ (found .before .before .before .pre .0) _ _ _ good (found .name-list .ensures) (c .walk-entries .ensures)
+    let good = sym (named .names-number .ensures) ∙ walk .before .if1 .left in
+    walked _ _ (found .before .before .before .pre .0) _ _ _ good (found .name-list .ensures) (walk .walk-entries .ensures) _ (c .frames-to .ensures)
 
 pub survey-lists-spec : {M : Type 1} → statement M
 survey-lists-spec =
@@ -48,4 +52,5 @@ survey-lists-spec =
     refusal-requires
     returns
     walk-entries-requires
+    frames-to-requires
     returns-2)
