@@ -188,12 +188,15 @@ uint64_t dialmoth_probes(const uint8_t *image, size_t image_length,
                          uint64_t frame, const uint8_t *name,
                          size_t name_length, uint64_t out[1]);
 
-/* Makes a fresh image of version 2.1 with no frame. 0 slots stand for 64, 0
- * segments for 16; it needs 256 + 32 * slots + 64 * segments bytes, and those
- * behind stay as they are. The texts have at most 63 bytes and need no closing
- * zero.
- * Ask for few slots and segments: every append clears those that are free, and
- * one that needs more moves them by itself to a block at least twice as long. */
+/* Makes a fresh image of version 2.1 with no frame. 0 slots stand for 512 (once
+ * for 64), 0 segments for 16; it needs 256 + 32 * slots + 64 * segments bytes,
+ * 17,664 with both 0, and those behind stay as they are. The texts have at most 63
+ * bytes and need no closing zero.
+ * Every append clears all slots that are free, 32 bytes each. With 512 that is up
+ * to 16 KiB an append until the index first moves; after a move it is up to half
+ * of the new block, and up to 2 KiB more if the append that moved it was stopped.
+ * On flash ask for few slots and segments: an append that needs more moves them by
+ * itself to a block at least twice as long. */
 uint64_t dialmoth_create(uint8_t *image, size_t image_length,
                          const uint8_t *application, size_t application_length,
                          const uint8_t *schema, size_t schema_length,
@@ -215,7 +218,8 @@ uint64_t dialmoth_create(uint8_t *image, size_t image_length,
  * The first stores of every append clear all free slots, 4 stores each, and the
  * rest of the name block, 8 a segment. So 1,440 frames of 4 rows, 18,720 bytes of
  * data, are 8,481,720 stores or 68 MB in one image of 64 slots and 16 segments at
- * first; in 24 such images of 60 frames they are 4.2 MB.
+ * first, and 69 MB from 512 slots; in 24 images of 60 frames they are 4.2 MB from
+ * 64 slots and 20 MB from 512.
  *
  * A sheet is a table, then the bodies, numbers little-endian, nothing between:
  *   u32 count, 1 to 64;

@@ -328,9 +328,11 @@ fn stores() {
     let rows = [
         ("a frame of 3 chunks behind 40,000 entries", Next::fitting().stored(library)),
         ("a frame of 3 chunks, 65,536 slots", Next::doubled().stored(library)),
-        ("1,440 frames of 3 chunks in turn", Day::of_three().stored(library, 1440)),
-        ("1,440 frames of 4 chunks in turn", Day::of_four().stored(library, 1440)),
-        ("1,440 frames of 4 chunks, 60 to an image", Day::of_four().stored(library, 60)),
+        ("1,440 frames of 3 chunks in turn", Day::of_three().stored(library, 1440, 64)),
+        ("1,440 frames of 4 chunks in turn", Day::of_four().stored(library, 1440, 64)),
+        ("the same, 0 slots asked for: 512", Day::of_four().stored(library, 1440, 0)),
+        ("1,440 frames of 4 chunks, 60 to an image", Day::of_four().stored(library, 60, 64)),
+        ("the same, 0 slots asked for: 512", Day::of_four().stored(library, 60, 0)),
     ];
     for (what, Stored { stores, data }) in rows {
         let [stores, bytes, data] = [stores, 8 * stores, data].map(grouped);

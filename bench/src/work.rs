@@ -13,6 +13,9 @@ const ENTRIES: usize = 40_000;
 /// Frames of a month's index.
 pub const MONTH: u64 = 2500;
 
+/// Slots of a fresh image whose calls are timed.
+const SLOTS: u64 = 64;
+
 /// 2,500 frames of so many names, in which 40,000 chunks are there; and some free slots, with room
 /// for their data.
 fn index(names: u16, there: impl Fn(u64, u16) -> bool, free: usize) -> Vec<u8> {
@@ -107,21 +110,16 @@ pub fn one_fingerprint() -> Vec<u8> {
 /// 8 frames of 3 chunks.
 pub fn small() -> Vec<u8> {
     let mut image = vec![0; 4096];
-    create(&Reference, &mut image);
+    create(&Reference, &mut image, SLOTS);
     for _ in 0..8 {
         append(&Reference, &mut image, &frame(0));
     }
     image
 }
 
-fn create(library: &dyn Library, image: &mut [u8]) {
-    let request = Create {
-        application: b"regulator",
-        schema: b"night",
-        schema_version: 0,
-        slots: 0,
-        segments: 0,
-    };
+fn create(library: &dyn Library, image: &mut [u8], slots: u64) {
+    let (application, schema) = (&b"regulator"[..], &b"night"[..]);
+    let request = Create { application, schema, schema_version: 0, slots, segments: 16 };
     assert_eq!(library.create(image, request), 0);
 }
 
@@ -200,11 +198,11 @@ impl Day {
         Day::of(frame_of_four)
     }
 
-    /// What the day's appends store, with so many frames to an image.
-    pub fn stored(mut self, library: &dyn Library, frames: usize) -> Stored {
+    /// What the day's appends store, with so many frames to an image and so many slots at first.
+    pub fn stored(mut self, library: &dyn Library, frames: usize, slots: u64) -> Stored {
         let mut stored = Stored::default();
         for sheets in self.sheets.chunks(frames) {
-            create(library, &mut self.image);
+            create(library, &mut self.image, slots);
             for sheet in sheets {
                 stored.add(library, &mut self.image, sheet);
                 append(library, &mut self.image, sheet);
@@ -220,7 +218,7 @@ impl Day {
     /// Appends one frame; before the first the image is made.
     pub fn append(&mut self, library: &dyn Library, minute: usize) {
         if minute == 0 {
-            create(library, &mut self.image);
+            create(library, &mut self.image, SLOTS);
         }
         append(library, &mut self.image, &self.sheets[minute]);
     }
@@ -293,7 +291,7 @@ impl Large {
         let data: Vec<u8> = (0..1 << 20).map(|n| (n * 7 + n / 251) as u8).collect();
         let sheet = sheet(&[Row::bytes(b"trace", &data)]);
         let mut fresh = vec![0; 3328];
-        create(&Reference, &mut fresh);
+        create(&Reference, &mut fresh, SLOTS);
         let mut large = Large { image: vec![1; (1 << 20) + 8192], fresh, sheet };
         large.restore();
         large

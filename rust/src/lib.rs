@@ -232,8 +232,9 @@ pub fn probes(image: &[u8], frame: u64, name: &[u8]) -> Probes {
     Probes { count, refusal: (number != 0).then_some(Refusal(number)) }
 }
 
-/// Makes a fresh image of version 2.1; 0 slots stand for 64, 0 segments for 16. Every append clears
-/// those that are free, and moves them by itself where it needs more.
+/// Makes a fresh image of version 2.1; 0 slots stand for 512 (once for 64), 0 segments for 16. Every
+/// append clears those that are free, with 512 slots up to 16 KiB until the index first moves, and
+/// moves them by itself where it needs more: on flash ask for few.
 pub fn create(
     image: &mut [u8],
     application: &[u8],

@@ -473,6 +473,21 @@ class Tests:
         ours_reads(self.peer, path, frames + more)
         real_reads(path, frames + more, max(layer, self.layer))
 
+    def both_grow_512(self, rng, path):
+        """An image of as many slots and segments as 0 stands for, grown by both."""
+        letters = create(self.peer, rng, path, 30_000, 0, 0)
+        layer = layer_of(path)
+        assert header(path) == (256, 512, 16_640, 16)
+        frames = [random_frame(rng, letters) for _ in range(rng.randint(1, 4))]
+        for frame in frames:
+            assert self.peer.append(path, frame)[0] == 0
+        real_reads(path, frames, layer)
+        more = [random_frame(rng, ASCII) for _ in range(rng.randint(1, 4))]
+        append_real(path, more)
+        assert header(path)[:2] == (256, 512)
+        ours_reads(self.peer, path, frames + more)
+        real_reads(path, frames + more, max(layer, self.layer))
+
     def both_grow_gaps(self, rng, path):
         """An image of ours with gaps: each append, ours and the real library's, goes behind the last
         frame, and into no gap."""
@@ -581,6 +596,7 @@ def main():
         tests.test("ours with characters that are no text" + refused, 1, tests.odd_texts)
         tests.test("files of gsd.fl, read by ours", 60, tests.real_file)
         tests.test("ours, grown by gsd.fl", 60, tests.real_grows_ours)
+        tests.test("ours of 512 slots, as 0 gives, grown by gsd.fl", 30, tests.both_grow_512)
         tests.test("files of gsd.fl, grown by ours", 60, tests.ours_grows_real)
         tests.test("files of gsd.fl with gaps, read and grown by ours", 60, tests.real_file_with_gaps)
         tests.test("ours with gaps, grown by both", 60, tests.both_grow_gaps)

@@ -30,7 +30,7 @@ pub fn call(
     k: usize,
     n: Numbers,
     table: &[u8],
-    image: &mut [u8; 8192],
+    image: &mut [u8; 32768],
     len: u64,
     sheet: &[u8],
     two: &mut [u64; 2],

@@ -18,8 +18,8 @@ ghost use lib.ListN.{length};
 fn number_of(
     line: Line,
     table: &[u8],
-    image: &mut [u8; 8192],
-    kept: &[u8; 8192],
+    image: &mut [u8; 32768],
+    kept: &[u8; 32768],
     sheet: &[u8],
     len: u64,
     one: &mut [u64; 1],
@@ -49,8 +49,8 @@ fn number_of(
 fn ask_line(
     line: Line,
     table: &[u8],
-    image: &mut [u8; 8192],
-    kept: &[u8; 8192],
+    image: &mut [u8; 32768],
+    kept: &[u8; 32768],
     sheet: &[u8],
     s: State,
     path: &[u8],
@@ -60,7 +60,7 @@ fn ask_line(
     let mut two = [1u64; 2];
     let mut three = [0u64; 3];
     let mut seven = [0u64; 7];
-    let mut text = [0u8; 8192];
+    let mut text = [0u8; 32768];
     let number = number_of(
         line,
         table,
@@ -82,9 +82,9 @@ fn run_words(
     table: &mut [u8],
     from: usize,
     to: usize,
-    image: &mut [u8; 8192],
-    kept: &mut [u8; 8192],
-    sheet: &mut [u8; 8192],
+    image: &mut [u8; 32768],
+    kept: &mut [u8; 32768],
+    sheet: &mut [u8; 32768],
     s: State,
     path: &[u8],
 ) -> State
@@ -104,9 +104,9 @@ fn run_line(
     table: &mut [u8],
     from: usize,
     to: usize,
-    image: &mut [u8; 8192],
-    kept: &mut [u8; 8192],
-    sheet: &mut [u8; 8192],
+    image: &mut [u8; 32768],
+    kept: &mut [u8; 32768],
+    sheet: &mut [u8; 32768],
     s: State,
     path: &[u8],
 ) -> State
@@ -128,9 +128,9 @@ fn run_line(
 pub fn run(table: &mut [u8], n: usize, path: &[u8]) -> State
     requires inside { ⌜ n ≤ length (now table) ⌝ }
 {
-    let mut image = [0u8; 8192];
-    let mut kept = [0u8; 8192];
-    let mut sheet = [0u8; 8192];
+    let mut image = [0u8; 32768];
+    let mut kept = [0u8; 32768];
+    let mut sheet = [0u8; 32768];
     let mut s = tally::start();
     let mut from = 0;
     while from < n {

@@ -8,7 +8,7 @@ use gsd_fresh::lay_out;
 ghost use mathlib.Core.Path.{_≡_};
 ghost use Rattle.gsd_format.specs.Create.{orDefault, badText, createTest, createNumber, created};
 
-const DEFAULT_SLOTS: u64 = 64;
+const DEFAULT_SLOTS: u64 = 512;
 
 const DEFAULT_SEGMENTS: u64 = 16;
 

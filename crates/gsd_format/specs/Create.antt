@@ -14,7 +14,7 @@ use Rattle.gsd_format.specs.Opening.{opening}
 
 -- how many slots and segments 0 stands for, each by itself
 abbrev pub defaultSlots : ℕ
-defaultSlots = 64
+defaultSlots = 512
 
 abbrev pub defaultSegments : ℕ
 defaultSegments = 16

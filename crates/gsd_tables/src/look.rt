@@ -23,8 +23,8 @@ fn end_of_use(image: &[u8]) -> u64 {
     wrapping_add_u64(end, 7) / 8 * 8
 }
 
-fn word_at(image: &[u8; 8192], at: u64) -> u64 {
-    if 8184 < at {
+fn word_at(image: &[u8; 32768], at: u64) -> u64 {
+    if 32760 < at {
         return 18446744073709551615;
     }
     gsd_bytes::u64_at(image, at as usize)
@@ -36,7 +36,7 @@ fn has(image: &[u8], at: u64, text: &[u8]) -> u64 {
 }
 
 // What stands in an image, len of its bytes lent: the number that the words from END to SAME ask for.
-pub fn look(line: Line, table: &[u8], image: &[u8; 8192], kept: &[u8; 8192], len: u64) -> u64 {
+pub fn look(line: Line, table: &[u8], image: &[u8; 32768], kept: &[u8; 32768], len: u64) -> u64 {
     let k = line.word;
     let n = line.numbers;
     match k {

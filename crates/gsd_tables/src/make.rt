@@ -1,4 +1,4 @@
-// What a table makes: an image, a copy of it that is kept, and an append sheet, of 8,192 bytes each. What has no room there
+// What a table makes: an image, a copy of it that is kept, and an append sheet, of 32,768 bytes each. What has no room there
 // is not put.
 use crate::tally;
 use crate::tally::State;
@@ -8,19 +8,19 @@ use gsd_lines::words;
 use std::num::wrapping_add_u64;
 
 // What would lie behind the end is not put, and 1 is answered; else 0.
-pub fn put_text(bytes: &mut [u8; 8192], at: u64, text: &[u8]) -> u64 {
-    if 8192 < at {
+pub fn put_text(bytes: &mut [u8; 32768], at: u64, text: &[u8]) -> u64 {
+    if 32768 < at {
         return 1;
     }
-    if 8192 - (at as usize) < text.len() {
+    if 32768 - (at as usize) < text.len() {
         return 1;
     }
     gsd_bytes::put_text(bytes, at as usize, text);
     0
 }
 
-fn put_word(bytes: &mut [u8; 8192], at: u64, w: u64) -> u64 {
-    if 8184 < at {
+fn put_word(bytes: &mut [u8; 32768], at: u64, w: u64) -> u64 {
+    if 32760 < at {
         return 1;
     }
     gsd_bytes::put_word(bytes, at as usize, w);
@@ -28,8 +28,8 @@ fn put_word(bytes: &mut [u8; 8192], at: u64, w: u64) -> u64 {
 }
 
 // A byte; a number above 255 is not one.
-pub fn put_byte(bytes: &mut [u8; 8192], at: u64, b: u64) -> u64 {
-    if 8191 < at {
+pub fn put_byte(bytes: &mut [u8; 32768], at: u64, b: u64) -> u64 {
+    if 32767 < at {
         return 1;
     }
     bytes[at as usize] = (b % 256) as u8;
@@ -42,16 +42,16 @@ fn put(
     at: u64,
     n: u64,
     text: &[u8],
-    image: &mut [u8; 8192],
-    sheet: &mut [u8; 8192],
+    image: &mut [u8; 32768],
+    sheet: &mut [u8; 32768],
     end: u64,
 ) -> u64 {
     match k {
         words::IMAGE => {
-            *image = [0u8; 8192];
-            n / 8193
+            *image = [0u8; 32768];
+            n / 32769
         }
-        words::USE => n / 8193,
+        words::USE => n / 32769,
         words::BYTES => put_text(image, at, text),
         words::WORD => put_word(image, at, n),
         words::BYTE => put_byte(image, at, n),
@@ -63,7 +63,7 @@ fn put(
 }
 
 // The image kept, or as it was kept.
-fn keep(k: usize, image: &mut [u8; 8192], kept: &mut [u8; 8192]) {
+fn keep(k: usize, image: &mut [u8; 32768], kept: &mut [u8; 32768]) {
     if k == words::KEEP {
         *kept = *image;
     }
@@ -91,9 +91,9 @@ fn made(s: State, k: usize, n: u64) -> State {
 pub fn make_line(
     line: Line,
     table: &[u8],
-    image: &mut [u8; 8192],
-    kept: &mut [u8; 8192],
-    sheet: &mut [u8; 8192],
+    image: &mut [u8; 32768],
+    kept: &mut [u8; 32768],
+    sheet: &mut [u8; 32768],
     s: State,
     path: &[u8],
 ) -> State {

@@ -72,7 +72,7 @@ pub fn begun(s: State, path: &[u8]) -> State {
 }
 
 // What is answered, up to the text's end, and what is expected.
-pub fn compared(s: State, path: &[u8], text: &[u8; 8192], end: u64, expected: &[u8]) -> State {
+pub fn compared(s: State, path: &[u8], text: &[u8; 32768], end: u64, expected: &[u8]) -> State {
     let mut s = s;
     s.idle = false;
     s.answers = wrapping_add_u64(s.answers, 1);
@@ -124,7 +124,7 @@ pub fn too_long(path: &[u8]) -> State {
 }
 
 // A space and a number, from a place of a text on; where it ends.
-fn say(text: &mut [u8; 8192], at: u64, number: u64) -> u64 {
+fn say(text: &mut [u8; 32768], at: u64, number: u64) -> u64 {
     let mut digits = [0u8; 20];
     let size = io::decimal(number, &mut digits);
     put_byte(text, at, 32);
@@ -133,7 +133,7 @@ fn say(text: &mut [u8; 8192], at: u64, number: u64) -> u64 {
 }
 
 // And some values behind it.
-fn say_values(text: &mut [u8; 8192], at: u64, values: &[u64]) -> u64 {
+fn say_values(text: &mut [u8; 32768], at: u64, values: &[u64]) -> u64 {
     let mut end = at;
     let mut i = 0;
     while i < values.len() {
@@ -170,7 +170,7 @@ pub fn answer(
     two: &[u64; 2],
     three: &[u64; 3],
     seven: &[u64; 7],
-    text: &mut [u8; 8192],
+    text: &mut [u8; 32768],
 ) -> u64 {
     let at = say(text, 0, number);
     match told(k, number) {

@@ -24,10 +24,10 @@ use Rattle.gsd_stores.specs.Plan.{bodies, endFrom, newNames, newEntries, insert
 use Rattle.gsd_stores.specs.Steps.{clearIndex, clearNames, storeTexts, moved, moveNames, storeName, storeNames, moveIndex, entryBytes, indexBytes, storeEntries, stepsOf, storeList}
 use Rattle.gsd_stores.specs.Append.{imageTest, planTest, appendTest, storesFor, appendAnswer, appended}
 use Rattle.gsd_stores.specs.Runs.{afterRun, lastStoreMade, completed}
-use Rattle.gsd_worked.specs.Table.{tableRow, sheetA, sheetB, sheetOf, freshIn, createdIn, inVersion, stepCounts, shown, table, versions}
-use Rattle.gsd_worked.specs.Table.{entriesFrom, search, probes, framed, sized, gaps, passes}
+use Rattle.gsd_worked.specs.Table.{tableRow, sheetA, sheetB, sheetOf, createdIn, madeIn, freshIn, inVersion, stepCounts, shown, table, versions}
+use Rattle.gsd_worked.specs.Table.{entriesFrom, search, probes, framed, sized, gaps, blocks, defaults, passes}
 
-pub worked : (passes table ≡ true) × (passes versions ≡ true) × (passes probes ≡ true) × (passes gaps ≡ true)
+pub worked : (passes table ≡ true) × (passes versions ≡ true) × (passes probes ≡ true) × (passes gaps ≡ true) × (passes defaults ≡ true)
 unfolding le leBytes same zeroIn stored ascii _⇒_ _▹_ sizeOf lastType layoutOf partsAt nameParts namesOf flat indexOf entryAt
     entriesAt entriesOf framesFrom headerTest blocksTest twins namesTest entryTest entriesTest verdict countsOf
     opening nthEntry nthName findEntry lookupIn lookup placed chunkPlace bytesAt orDefault createTest freshHeader
@@ -36,7 +36,7 @@ unfolding le leBytes same zeroIn stored ascii _⇒_ _▹_ sizeOf lastType layout
     badTable bodiesEnd rowsAt rowsOf anyZero sheetTest after words up down slotsDown viewOf chunksEnd endOfUse bodies
     newNames newEntries inserted sorted doubled planOf clearIndex clearNames storeTexts endFrom moved moveNames
     storeName storeNames moveIndex entryBytes indexBytes storeEntries stepsOf storeList imageTest planTest appendTest
-    storesFor appendAnswer appended afterRun lastStoreMade completed tableRow sheetA sheetB freshIn createdIn
+    storesFor appendAnswer appended afterRun lastStoreMade completed tableRow sheetA sheetB createdIn madeIn freshIn
     stepCounts shown sheetOf inVersion elementOf elementIn element halve lastProbe probed searched searchTest
-    unless size span climb entriesFrom search framed sized table versions probes gaps passes
-worked = (refl, refl, refl, refl)
+    unless size span climb entriesFrom search framed sized blocks table versions probes gaps defaults passes
+worked = (refl, refl, refl, refl, refl)

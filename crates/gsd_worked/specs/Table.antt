@@ -50,12 +50,16 @@ sheetB = leBytes 4 2 ++ tableRow 3 1 9 (ascii "probe") ++ tableRow 1 1 1 (ascii 
 unfoldable pub sheetOf : ℕ → List ℕ
 sheetOf kind = leBytes 4 1 ++ tableRow 2 1 kind (ascii "mode") ++ ascii "mode" ++ 0x4f ∷ 0xff ∷ []
 
--- 2 slots, 1 segment, in a slice of so many bytes
-unfoldable pub freshIn : ℕ → List ℕ
-freshIn len = created (zeros len) [] [] 0 2 1
+-- so many slots and segments asked for, in a slice of so many bytes: create's number, and the slice afterwards
+unfoldable pub createdIn : ℕ → ℕ → ℕ → ℕ
+createdIn slots segments len = createNumber (zeros len) [] [] slots segments
 
-unfoldable pub createdIn : ℕ → ℕ
-createdIn len = createNumber (zeros len) [] [] 2 1
+unfoldable pub madeIn : ℕ → ℕ → ℕ → List ℕ
+madeIn slots segments len = created (zeros len) [] [] 0 slots segments
+
+-- 2 slots, 1 segment
+unfoldable pub freshIn : ℕ → List ℕ
+freshIn len = madeIn 2 1 len
 
 -- the image with another version in its header
 unfoldable pub inVersion : ℕ → List ℕ → List ℕ
@@ -88,8 +92,8 @@ table =
     let a552 : List ℕ = appended (freshIn 552) sheetA 23 in
     let a551 : List ℕ = appended (freshIn 551) sheetA 23 in
     record { says = "a fresh image: end of use 384, 0 frames"; got = endIn x ∷ shown x; expected = 384 ∷ 0 ∷ 0 ∷ 0 ∷ 0 ∷ [] }
-    ∷ record { says = "383 bytes: 52"; got = createdIn 383 ∷ []; expected = 52 ∷ [] }
-    ∷ record { says = "384: made"; got = createdIn 384 ∷ shown (freshIn 384); expected = 0 ∷ 0 ∷ 0 ∷ 0 ∷ 0 ∷ [] }
+    ∷ record { says = "383 bytes: 52"; got = createdIn 2 1 383 ∷ []; expected = 52 ∷ [] }
+    ∷ record { says = "384: made"; got = createdIn 2 1 384 ∷ shown (freshIn 384); expected = 0 ∷ 0 ∷ 0 ∷ 0 ∷ 0 ∷ [] }
     ∷ record {
       says = "sheet A, 37 bytes: 8 + 8 + 2 + 1 + 4 = 23 stores";
       got = length sheetA ∷ stepCounts x sheetA;
@@ -267,6 +271,32 @@ gaps =
       says = "last frame 4,294,967,293: one append fits, the next gives 31";
       got = appendTest lastButOne sheetA ∷ shown full ++ found full 4294967294 "probe" ∷ appendTest full sheetA ∷ [];
       expected = 0 ∷ 0 ∷ 4294967295 ∷ 2 ∷ 4 ∷ 0 ∷ 31 ∷ [];
+    }
+    ∷ []
+
+-- index, slots, name list, segments, then verdict, frames, names, entries
+unfoldable pub blocks : List ℕ → List ℕ
+blocks img = layoutOf img .index ∷ layoutOf img .slots ∷ layoutOf img .namelist ∷ layoutOf img .segments ∷ shown img
+
+-- what 0 slots and 0 segments stand for
+unfoldable pub defaults : List Case
+defaults =
+    record {
+      says = "0 slots in 4,096 and 17,663 bytes: 52; in 17,664: made";
+      got = createdIn 0 0 4096 ∷ createdIn 0 0 17663 ∷ createdIn 0 0 17664 ∷ [];
+      expected = 52 ∷ 52 ∷ 0 ∷ [];
+    }
+    ∷ record {
+      says = "512 slots, 16 segments";
+      got = blocks (madeIn 0 0 17664);
+      expected = 256 ∷ 512 ∷ 16640 ∷ 16 ∷ 0 ∷ 0 ∷ 0 ∷ 0 ∷ [];
+    }
+    ∷ record { says = "0 slots and 1 segment: 16,704"; got = createdIn 0 1 16703 ∷ createdIn 0 1 16704 ∷ []; expected = 52 ∷ 0 ∷ [] }
+    ∷ record { says = "1 slot and 0 segments: 1,312"; got = createdIn 1 0 1311 ∷ createdIn 1 0 1312 ∷ []; expected = 52 ∷ 0 ∷ [] }
+    ∷ record {
+      says = "64 slots, asked for: 3,328";
+      got = createdIn 64 0 3327 ∷ createdIn 64 0 3328 ∷ blocks (madeIn 64 0 3328);
+      expected = 52 ∷ 0 ∷ 256 ∷ 64 ∷ 2304 ∷ 16 ∷ 0 ∷ 0 ∷ 0 ∷ 0 ∷ [];
     }
     ∷ []
 

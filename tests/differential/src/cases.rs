@@ -278,7 +278,7 @@ const CASES: &[Case] = &[
     }),
     ("worked: 64 rows", |l| {
         let rows: Vec<_> = (0..65).map(|n| Row::bytes(&[b'a', n + 1], &[n])).collect();
-        let image = l.fresh(16_384, 0, 0).unwrap();
+        let image = l.fresh(16_384, 64, 16).unwrap();
         let (after, stores) = l.after(&image, &sheet(&rows[..64]), ALL);
         assert!(stores.is_ok());
         assert_eq!(l.counts(&after), Ok([1, 64, 64]));
@@ -728,14 +728,67 @@ const CASES: &[Case] = &[
             assert_eq!(create(length, &[b'x'; 63], 1, 1), 52);
         }
         assert_eq!(create(352, &[b'x'; 63], 1, 1), 0);
-        assert_eq!(create(2367, b"", 0, 1), 52);
-        assert_eq!(create(2368, b"", 0, 1), 0);
         assert_eq!(create(1311, b"", 1, 0), 52);
         assert_eq!(create(1312, b"", 1, 0), 0);
-        assert_eq!(create(3327, b"", 0, 0), 52);
-        assert_eq!(create(3328, b"", 0, 0), 0);
+        assert_eq!(create(16_703, b"", 0, 1), 52);
+        assert_eq!(create(16_704, b"", 0, 1), 0);
+        assert_eq!(create(4096, b"", 0, 0), 52);
+        assert_eq!(create(17_663, b"", 0, 0), 52);
+        assert_eq!(create(17_664, b"", 0, 0), 0);
+        assert_eq!(create(2367, b"", 64, 1), 52);
+        assert_eq!(create(2368, b"", 64, 1), 0);
+        assert_eq!(create(3327, b"", 64, 0), 52);
+        assert_eq!(create(3328, b"", 64, 0), 0);
         assert_eq!(create(512, b"", ALL, 1), 50);
         assert_eq!(create(512, b"", 1, 1 << 58), 50);
+    }),
+    ("create, every byte: 0 slots are 512, 0 segments 16, each by itself", |l| {
+        let units = [
+            ((0, 0), (512, 16), 17_664),
+            ((0, 1), (512, 1), 16_704),
+            ((3, 0), (3, 16), 1376),
+            // What 0 and 0 were before.
+            ((64, 16), (64, 16), 3328),
+            ((64, 0), (64, 16), 3328),
+        ];
+        for ((slots, segments), made, end) in units {
+            let mut expected = vec![7; 17_700];
+            expected[..end].fill(0);
+            expected[..8].copy_from_slice(&[0xDF, 0x65, 0xDF, 0x65, 0xDF, 0x65, 0xDF, 0x65]);
+            put64(&mut expected, 8, 256);
+            put64(&mut expected, 16, made.0);
+            put64(&mut expected, 24, 256 + 32 * made.0);
+            put64(&mut expected, 32, made.1);
+            expected[40..51].copy_from_slice(b"\x04\x03\x02\x01\x01\0\x02\0app");
+            expected[112..115].copy_from_slice(b"sch");
+            let mut image = vec![7; 17_700];
+            let (application, schema, schema_version) = (&b"app"[..], &b"sch"[..], 0x0102_0304);
+            let request = Create { application, schema, schema_version, slots, segments };
+            assert_eq!(l.create(&mut image, request), 0);
+            assert_eq!(image, expected);
+        }
+    }),
+    ("what 512 slots cost an append", |l| {
+        let mut image = l.fresh(100_000, 0, 2).unwrap();
+        let rows: Vec<_> = (0..64).map(|n| Row::new(&[n + 1], 1, 0, 1, b"")).collect();
+        let whole = |image: &[u8]| l.after(image, &sheet(&rows[..1]), 0).1.unwrap()[1];
+        // All slots are free: 16 KiB. Then 16 stores for the segments, the name and the entry.
+        assert_eq!(whole(&image), 16_384 / 8 + 16 + 1 + 4);
+        for frame in 1..=7 {
+            image = l.after(&image, &sheet(&rows), ALL).0;
+            // 64 names of 2 bytes fill the segments.
+            assert_eq!(whole(&image), 4 * (512 - 64 * frame) + 4);
+        }
+        // 449 entries and 64 more: the index moves, and fewer than half of its slots are free
+        // then; where the append is stopped, up to 63 more.
+        image = l.after(&image, &sheet(&rows[..1]), ALL).0;
+        let all = l.after(&image, &sheet(&rows), 0).1.unwrap()[1];
+        assert_eq!(all, 4 * (512 - 449) + 4 * 1024 + 2 + 4 * 64);
+        for (limit, free) in [(all, 511), (all - 1, 512 + 63)] {
+            let moved = l.after(&image, &sheet(&rows), limit).0;
+            assert_eq!(get64(&moved, 16), 1024);
+            assert_eq!(whole(&moved), 4 * free + 4);
+        }
     }),
     ("21 also for empty blocks", |l| {
         let number = |index, slots, names, segments| {
@@ -964,7 +1017,8 @@ const CASES: &[Case] = &[
         assert_eq!(out, [0, 0]);
     }),
     ("31 goes before 28 and after 21", |l| {
-        for (frame, numbers) in [(GREATEST_FRAME - 1, [28, 21, 21]), (GREATEST_FRAME, [31, 21, 21])] {
+        for (frame, numbers) in [(GREATEST_FRAME - 1, [28, 21, 21]), (GREATEST_FRAME, [31, 21, 21])]
+        {
             let mut names = many_names(l, 1024);
             let end = names.len() as u64;
             put_slots(&mut names, 256, &[Slot::bytes(frame, 0, end, 0)]);

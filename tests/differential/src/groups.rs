@@ -106,7 +106,7 @@ fn create(check: &mut Check, rng: &mut Rng) {
     };
     let (slots, segments) = (count(rng), count(rng));
     let or = |count: u64, default: u64| if count == 0 { default } else { count };
-    let need = 256 + 32 * or(slots, 64).min(200) + 64 * or(segments, 16).min(200);
+    let need = 256 + 32 * or(slots.min(200), 512) + 64 * or(segments.min(200), 16);
     let length = match rng.below(4) {
         0 => rng.below(need as usize + 1),
         1 => need as usize,

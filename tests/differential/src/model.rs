@@ -58,6 +58,8 @@ faults! {
     RefusedAppendKeepsOut,
     CreateTestsOne,
     CreateNeedsBothZero,
+    ZeroSlotsAre64,
+    ZeroSegmentsAre512,
     CreateClearsAll,
     CreateKeepsReserved,
     EmptyBlocksMayBeOdd,
@@ -977,8 +979,11 @@ impl Library for Model {
         }
         let both = slots == 0 && segments == 0;
         let zero = |count| count == 0 && (both || !self.has(Fault::CreateNeedsBothZero));
-        let slots = if zero(slots) { 64 } else { slots };
-        let segments = if zero(segments) { 16 } else { segments };
+        // "Asking for 0 slots now gives 512 instead of 64. Segments keep their 16."
+        let usual_slots = if self.has(Fault::ZeroSlotsAre64) { 64 } else { 512 };
+        let usual_segments = if self.has(Fault::ZeroSegmentsAre512) { 512 } else { 16 };
+        let slots = if zero(slots) { usual_slots } else { slots };
+        let segments = if zero(segments) { usual_segments } else { segments };
         let names = 256 + 32 * slots;
         let end = (names + 64 * segments) as usize;
         if image.len() < end {

@@ -424,7 +424,7 @@ pub fn create(
     if [application, schema].iter().any(|text| text.len() > 63 || text.contains(&0)) {
         return Err(51);
     }
-    let slots = if slots == 0 { 64 } else { slots };
+    let slots = if slots == 0 { 512 } else { slots };
     let segments = if segments == 0 { 16 } else { segments };
     let names = HEADER + SLOT as u64 * slots;
     let end = (names + SEGMENT as u64 * segments) as usize;

@@ -116,6 +116,11 @@ fn created() {
     assert_eq!(dialmoth::create(&mut image, b"a", b"s", 3, 2, 1), Ok(()));
     let counts = dialmoth::Counts { frames: 0, names: 0, entries: 0 };
     assert_eq!(dialmoth::open(&image), Ok(counts));
+    let mut image = vec![9; 17_664];
+    let short = Err(Refusal::SHORT_FOR_BLOCKS);
+    for (length, answer) in [(4096, short), (17_663, short), (17_664, Ok(()))] {
+        assert_eq!(dialmoth::create(&mut image[..length], b"", b"", 0, 0, 0), answer);
+    }
 }
 
 fn frames_run_out() {
