@@ -66,6 +66,7 @@ extern "C" {
     R(25, DIALMOTH_SHEET_LENGTH, "sheet's length is not exactly table plus bodies")             \
     R(26, DIALMOTH_ZERO_IN_NAME, "a name of the sheet holds a zero byte")                       \
     R(27, DIALMOTH_NAME_TWICE, "two rows of the sheet have one name")                           \
+    R(30, DIALMOTH_NAN_IN_SHEET, "a float or double of the sheet is a NaN")                     \
     R(28, DIALMOTH_NAMES_FULL, "names would pass 1,024")                                        \
     R(29, DIALMOTH_NO_ROOM, "the append would pass the image's end")                            \
     /* Lookup, chunk, element and probes, in this order. */                                     \
@@ -172,7 +173,7 @@ uint64_t dialmoth_chunk(const uint8_t *image, size_t image_length,
 /* Element k of a chunk, from 0, M the fast index: k = i * M + j for i below N
  * and j below M.
  * out: its kind (enum dialmoth_kind; a character is unsigned) and its exact
- * bits. */
+ * bits, those of a NaN too. */
 uint64_t dialmoth_element(const uint8_t *image, size_t image_length,
                           uint64_t frame, const uint8_t *name,
                           size_t name_length, uint64_t k, uint64_t out[2]);
@@ -211,6 +212,11 @@ uint64_t dialmoth_create(uint8_t *image, size_t image_length,
  * block that was moved before the stop stays moved, so it may take more room.)
  * The image keeps its version: one of 2.0 refuses a row of DIALMOTH_CHARACTER
  * with DIALMOTH_BAD_ROW, one of 2.1 takes it.
+ * A NaN among the elements of a row of floats or doubles, quiet or signalling,
+ * of either sign, is refused with DIALMOTH_NAN_IN_SHEET, whatever the limit.
+ * Infinities pass, and rows of other types are not looked at. An image that
+ * holds NaNs already reads as before and takes appends, but such a chunk of it
+ * can be appended again only once its NaNs are gone.
  * A stop is this limit, seen as the call ends: within a call the compiler may
  * join or reorder stores, so a cut of power inside it is not covered.
  * out: stores done, stores of the whole append. The frame is there exactly when

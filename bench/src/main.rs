@@ -288,16 +288,26 @@ fn next(pass: &mut Pass, what: &'static str, mut next: Next) {
     pass.beyond_opening(what, &times);
 }
 
-fn large(pass: &mut Pass) {
-    let (library, mut large) = (pass.library, Large::new());
+/// A chunk of 1 MiB, beside plain Rust and beside memcpy.
+fn large(pass: &mut Pass, whats: [&'static str; 2], key: &'static str, mut large: Large) {
+    let library = pass.library;
     let sides: &mut [Side<Large>] = &mut [
         &mut |large, _| large.append(library),
         &mut |large, _| large.append(&Reference),
         &mut |large, _| large.copy(),
     ];
     let times = best(&mut large, Large::restore, 1, sides);
-    pass.row("append one chunk of 1 MiB", "append_large", times[0], times[1]);
-    pass.row("append one chunk of 1 MiB, beside memcpy", "", times[0], times[2]);
+    pass.row(whats[0], key, times[0], times[1]);
+    pass.row(whats[1], "", times[0], times[2]);
+}
+
+fn large_chunks(pass: &mut Pass) {
+    let whats = ["append one chunk of 1 MiB", "append one chunk of 1 MiB, beside memcpy"];
+    large(pass, whats, "append_large", Large::bytes());
+    let whats = ["append 262,144 floats, 1 MiB", "append 262,144 floats, beside memcpy"];
+    large(pass, whats, "", Large::floats());
+    let whats = ["append 131,072 doubles, 1 MiB", "append 131,072 doubles, beside memcpy"];
+    large(pass, whats, "", Large::doubles());
 }
 
 fn pass(library: &dyn Library, first: Option<&[Row]>) -> Vec<Row> {
@@ -307,7 +317,7 @@ fn pass(library: &dyn Library, first: Option<&[Row]>) -> Vec<Row> {
     search(&mut pass);
     next(&mut pass, "append a frame of 3 chunks behind 40,000 entries", Next::fitting());
     next(&mut pass, "append a frame of 3 chunks, 65,536 slots", Next::doubled());
-    large(&mut pass);
+    large_chunks(&mut pass);
     pass.rows
 }
 
@@ -379,8 +389,9 @@ fn table(real: HashMap<String, f64>) {
     println!(
         "Buffers: reading calls find image and caches warm. The day's image is cleared before"
     );
-    println!("each run of 1,440 appends, untimed. The 1 MiB chunk goes to memory written before");
-    println!("and not cleared; header and blocks are restored, untimed.");
+    println!("each run of 1,440 appends, untimed. The 1 MiB chunks go to memory written before");
+    println!("and not cleared; header and blocks are restored, untimed. Floats and doubles are");
+    println!("tested for NaNs by both sides, bytes are not; memcpy tests nothing.");
     println!(
         "The 64 MiB are opened in the first pass alone where that takes over {} ms.",
         LONG.as_millis()

@@ -1,4 +1,4 @@
-//! What is timed and counted: a month's index, many names, a day of frames, one large chunk.
+//! What is timed and counted: a month's index, many names, a day of frames, large chunks.
 
 use crate::fingerprint;
 use differential::ask::Ask;
@@ -287,9 +287,24 @@ pub struct Large {
 }
 
 impl Large {
-    pub fn new() -> Large {
+    pub fn bytes() -> Large {
         let data: Vec<u8> = (0..1 << 20).map(|n| (n * 7 + n / 251) as u8).collect();
-        let sheet = sheet(&[Row::bytes(b"trace", &data)]);
+        Large::of(Row::bytes(b"trace", &data))
+    }
+
+    /// The same number of bytes as floats, none of them a NaN.
+    pub fn floats() -> Large {
+        let data: Vec<[u8; 4]> = (0..1 << 18).map(|n| (n as f32 / 7.0).to_le_bytes()).collect();
+        Large::of(Row::new(b"trace", 9, 1 << 18, 1, data.as_flattened()))
+    }
+
+    pub fn doubles() -> Large {
+        let data: Vec<[u8; 8]> = (0..1 << 17).map(|n| (n as f64 / 7.0).to_le_bytes()).collect();
+        Large::of(Row::new(b"trace", 10, 1 << 17, 1, data.as_flattened()))
+    }
+
+    fn of(row: Row) -> Large {
+        let sheet = sheet(&[row]);
         let mut fresh = vec![0; 3328];
         create(&Reference, &mut fresh, SLOTS);
         let mut large = Large { image: vec![1; (1 << 20) + 8192], fresh, sheet };

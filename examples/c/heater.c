@@ -1,6 +1,7 @@
 /*
- * A regulator's night in an image: make it, append frames, survive a stop, and read the heater's
- * duty of the last frame. Where a file is named, the image is written to it as the stop leaves it.
+ * A regulator's night in an image: make it, append frames, survive a stop and a failing probe, and
+ * read the heater's duty of the last frame. Where a file is named, the image is written to it as the
+ * stop leaves it.
  */
 #include "dialmoth.h"
 
@@ -43,37 +44,56 @@ static uint8_t *put_row(uint8_t *at, uint64_t n, uint32_t m, uint8_t type, const
     return at;
 }
 
-/*
- * Appends a frame with three readings and, where the heater answered, its duty in per cent.
- * Makes at most `limit` stores; answers whether the frame is there.
- */
-static int append_frame(const float probe[3], const uint8_t *duty, uint64_t limit)
+static uint8_t *put_readings(uint8_t *at, const float probe[3])
 {
-    uint8_t sheet[128];
-    uint8_t *end = put(sheet, "\1\0\0\0", 4);
-    uint64_t stores[2];
     int k;
-
-    if (duty != NULL)
-        sheet[0] = 2;
-    end = put_row(end, 3, 1, DIALMOTH_FLOAT, "probe");
-    if (duty != NULL)
-        end = put_row(end, 1, 1, DIALMOTH_U8, "heater");
-    end = put(end, "probe", 5);
     for (k = 0; k < 3; k++) {
         uint32_t bits;
         memcpy(&bits, &probe[k], 4);
-        *end++ = (uint8_t)bits;
-        *end++ = (uint8_t)(bits >> 8);
-        *end++ = (uint8_t)(bits >> 16);
-        *end++ = (uint8_t)(bits >> 24);
+        *at++ = (uint8_t)bits;
+        *at++ = (uint8_t)(bits >> 8);
+        *at++ = (uint8_t)(bits >> 16);
+        *at++ = (uint8_t)(bits >> 24);
     }
-    if (duty != NULL) {
-        end = put(end, "heater", 6);
-        end = put(end, duty, 1);
+    return at;
+}
+
+/* Three readings and the heater's duty in per cent; what is NULL has no row. Answers its length. */
+static size_t make_sheet(uint8_t sheet[128], const float *probe, const uint8_t *duty)
+{
+    uint8_t *end = put(sheet, "\0\0\0\0", 4);
+
+    sheet[0] = (probe != NULL) + (duty != NULL);
+    if (probe != NULL)
+        end = put_row(end, 3, 1, DIALMOTH_FLOAT, "probe");
+    if (duty != NULL)
+        end = put_row(end, 1, 1, DIALMOTH_U8, "heater");
+    if (probe != NULL)
+        end = put_readings(put(end, "probe", 5), probe);
+    if (duty != NULL)
+        end = put(put(end, "heater", 6), duty, 1);
+    return (size_t)(end - sheet);
+}
+
+/*
+ * Appends a frame of what there is; a frame of nothing is none. Readings that hold a NaN are refused
+ * and left out: the frame then has no chunk of them. Makes at most `limit` stores; answers whether
+ * the frame is there.
+ */
+static int append_frame(const float *probe, const uint8_t *duty, uint64_t limit)
+{
+    uint8_t sheet[128];
+    uint64_t stores[2], number;
+    size_t length = make_sheet(sheet, probe, duty);
+
+    if (probe == NULL && duty == NULL)
+        return 0;
+    number = dialmoth_append(image, sizeof image, sheet, length, limit, stores);
+    if (number == DIALMOTH_NAN_IN_SHEET) {
+        printf("append: a reading is a NaN\n");
+        return append_frame(NULL, duty, limit);
     }
-    must("append",
-         dialmoth_append(image, sizeof image, sheet, (size_t)(end - sheet), limit, stores));
+    must("append", number);
     printf("append: %" PRIu64 " of %" PRIu64 " stores\n", stores[0], stores[1]);
     return stores[0] == stores[1];
 }
@@ -114,6 +134,7 @@ static void save(const char *path)
 int main(int count, char **words)
 {
     static const float evening[3] = {21.5f, 22.25f, 19.0f}, night[3] = {18.5f, 18.75f, 17.5f};
+    const float failing[3] = {18.5f, strtof("nan", NULL), 17.5f};
     const uint8_t duty = 40, more = 55;
 
     must("create", dialmoth_create(image, sizeof image, DIALMOTH_TEXT("regulator"),
@@ -136,6 +157,11 @@ int main(int count, char **words)
 
     /* The same append is made again, and now to its end. */
     if (!append_frame(night, &more, UINT64_MAX))
+        return 1;
+    print_last_duty();
+
+    /* The probe card fails: the frame has no chunk of it, and the heater's all the same. */
+    if (!append_frame(failing, &duty, UINT64_MAX))
         return 1;
     print_last_duty();
     return 0;

@@ -108,7 +108,7 @@ impl Entry {
 }
 
 /// An element of a chunk; a character is an unsigned number. Floats are equal here when their bits
-/// are.
+/// are, NaNs too.
 #[derive(Clone, Copy, Debug)]
 pub enum Element {
     Unsigned(u64),
@@ -262,6 +262,11 @@ pub fn create(
 /// Makes the first `limit` stores of the append of a sheet's chunks as one new frame; its number is
 /// the number of frames so far. The image keeps its version, and one of 2.0 refuses a character
 /// ([`Refusal::BAD_ROW`]).
+///
+/// A NaN among the elements of a row of floats or doubles is refused ([`Refusal::NAN_IN_SHEET`]),
+/// whatever the limit. Infinities pass, and rows of other types are not looked at. An image that
+/// holds NaNs already reads as before and takes appends, but such a chunk of it can be appended again
+/// only once its NaNs are gone.
 pub fn append(image: &mut [u8], sheet: &[u8], limit: u64) -> Result<Stores, Refusal> {
     let [done, whole] = answer(|out| unsafe {
         let image = (image.as_mut_ptr(), image.len());
@@ -270,7 +275,8 @@ pub fn append(image: &mut [u8], sheet: &[u8], limit: u64) -> Result<Stores, Refu
     Ok(Stores { done, whole })
 }
 
-/// A chunk to append. The append refuses a sheet whose data are not `n` by `m` elements.
+/// A chunk to append. The append refuses a sheet whose data are not `n` by `m` elements, and floats
+/// or doubles with a NaN among them.
 #[derive(Clone, Copy, Debug)]
 pub struct Row<'a> {
     pub name: &'a [u8],

@@ -57,6 +57,7 @@ refusals! {
     25 SHEET_LENGTH "sheet's length is not exactly table plus bodies"
     26 ZERO_IN_NAME "a name of the sheet holds a zero byte"
     27 NAME_TWICE "two rows of the sheet have one name"
+    30 NAN_IN_SHEET "a float or double of the sheet is a NaN"
     28 NAMES_FULL "names would pass 1,024"
     29 NO_ROOM "the append would pass the image's end"
     // Lookup, chunk, element and probes, in this order; then n-th name and entry.

@@ -10,10 +10,12 @@ least 1 and M 1, and gsd.fl drops zeros at their end; it writes ASCII alone. A l
 characters, as gsd 2.7.0, refuses the file or the chunk. A frame may have no chunk, but the number of the
 last one that has some is to be below the number of slots. An image whose last append was stopped is for
 this library's own readers only, until the clearing stores of the next append are made: the C reader
-finds the list's end by halving, and looks at slots behind it.
+finds the list's end by halving, and looks at slots behind it. gsd.fl writes NaNs, floats and doubles
+that are not a number; ours reads them, and refuses an append that has one with 30.
 """
 
 import contextlib
+import math
 import os
 import random
 import shutil
@@ -39,6 +41,16 @@ NUMBERS = {numpy.dtype(name): number for number, name in TYPES.items()}
 CHARACTERS = 11 in gsd.pygsd.gsd_type_mapping
 ASCII = "ab 7~\n" if CHARACTERS else ""
 LETTERS = ASCII + "éµ温" if CHARACTERS else ""
+# Bits of floats and doubles: of numbers at an edge, infinities among them, and of NaNs.
+EDGES = {
+    9: [0x7F800000, 0xFF800000, 0x80000000, 1, 0x7F7FFFFF],
+    10: [0x7FF0000000000000, 0xFFF0000000000000, 0x8000000000000000, 1, 0x7FEFFFFFFFFFFFFF],
+}
+NANS = {
+    9: [0x7F800001, 0x7FC00000, 0xFFC00000, 0xFFFFFFFF],
+    10: [0x7FF0000000000001, 0x7FF8000000000000, 0xFFF8000000000000, 0xFFFFFFFFFFFFFFFF],
+}
+STORED_WITH_NANS = ["extremes.gsd", "random_0003.gsd", "ten_types.gsd", "2.1/extremes.gsd"]
 NAMES = ["a", "probe", "heater", "fan", "position", "particles/position", "größe/µ", "温度",
          "x" * 63, "y" * 64, "z" * 200]
 ALL = 2**64 - 1
@@ -114,24 +126,74 @@ def random_text(rng, letters):
     return characters("".join(rng.choices(letters, k=rng.randint(1, 9))).encode())
 
 
-def random_frame(rng, letters=""):
-    """Some chunks; floats of all kinds, empty ones too, and where letters are given characters."""
+def size_of(kind):
+    return numpy.dtype(TYPES[kind]).itemsize
+
+
+def is_nan(raw):
+    return math.isnan(struct.unpack("<f" if len(raw) == 4 else "<d", raw)[0])
+
+
+def random_float(rng, kind, nans):
+    """The bytes of a float or a double, any or at an edge; of a NaN only where asked for."""
+    size = size_of(kind)
+    edges = EDGES[kind] + (NANS[kind] if nans else [])
+    while True:
+        raw = rng.choice([rng.randbytes(size), rng.choice(edges).to_bytes(size, "little")])
+        if nans or not is_nan(raw):
+            return raw
+
+
+def random_chunk(rng, kind, n, m, nans):
+    if kind in NANS:
+        raw = b"".join(random_float(rng, kind, nans) for _ in range(n * m))
+    else:
+        raw = rng.randbytes(n * m * size_of(kind))
+    return numpy.frombuffer(raw, TYPES[kind]).reshape(n, m)
+
+
+def random_frame(rng, letters="", nans=False):
+    """Some chunks, empty ones too; where letters are given characters, and where asked for NaNs, which
+    the real library alone can append."""
     frame = {}
     for name in rng.sample(NAMES, rng.randint(1, 4)):
         kind = rng.randint(1, 11 if letters else 10)
         if kind == 11:
             frame[name] = random_text(rng, letters)
             continue
-        dtype = numpy.dtype(TYPES[kind])
-        shape = (rng.choice([0, 1, 1, 2, 3, 7]), rng.choice([1, 1, 1, 2, 3, 4]))
-        raw = rng.randbytes(shape[0] * shape[1] * dtype.itemsize)
-        frame[name] = numpy.frombuffer(raw, dtype).reshape(shape)
+        n, m = rng.choice([0, 1, 1, 2, 3, 7]), rng.choice([1, 1, 1, 2, 3, 4])
+        frame[name] = random_chunk(rng, kind, n, m, nans)
     return frame
 
 
+def real_frame(rng):
+    """A frame that the real library can write."""
+    return random_frame(rng, ASCII, nans=True)
+
+
 def random_frames(rng, most):
-    """Up to so many frames that the real library can write."""
-    return [random_frame(rng, ASCII) for _ in range(rng.randint(0, most))]
+    """Up to so many of them."""
+    return [real_frame(rng) for _ in range(rng.randint(0, most))]
+
+
+def with_nan(rng, frame):
+    """The frame with a chunk more, one element of which is a NaN: the first, the last or any."""
+    kind, n, m = rng.choice([9, 10]), rng.choice([1, 1, 2, 3, 40]), rng.choice([1, 1, 3])
+    bits = random_chunk(rng, kind, n, m, nans=False).view(f"u{size_of(kind)}").copy()
+    bits.flat[rng.choice([0, -1, rng.randrange(n * m)])] = rng.choice(NANS[kind])
+    rows = [*frame.items(), ("nan", bits.view(TYPES[kind]))]
+    rng.shuffle(rows)
+    return dict(rows)
+
+
+def holds_nan(frame):
+    return any(data.dtype.kind == "f" and numpy.isnan(data).any() for data in frame.values())
+
+
+def without_nans(frame):
+    """The frame with infinities in place of its NaNs."""
+    return {name: numpy.where(numpy.isnan(data), data.dtype.type("inf"), data)
+            if data.dtype.kind == "f" else data for name, data in frame.items()}
 
 
 def spread(rng, frames):
@@ -216,6 +278,11 @@ def header(path):
         return struct.unpack("<4Q", file.read(40)[8:])
 
 
+def aligned(path):
+    index, _, names, _ = header(path)
+    return index % 8 == 0 and names % 8 == 0
+
+
 def layer_of(path):
     """Major and minor number of the file layer."""
     with open(path, "rb") as file:
@@ -228,6 +295,19 @@ def make_older(path):
     with open(path, "r+b") as file:
         file.seek(44)
         file.write(b"\0")
+
+
+def content(path):
+    with open(path, "rb") as file:
+        return file.read()
+
+
+def ours_refuses(peer, path, frame, number):
+    """Holds an append to its refusal, at any limit, and the image to its bytes."""
+    before = content(path)
+    for limit in [0, 1, ALL]:
+        assert peer.append(path, frame, limit) == (number, 0, 0)
+    assert content(path) == before
 
 
 def create(peer, rng, path, length, slots, segments, layers=((2, 0), (2, 1))):
@@ -249,6 +329,9 @@ def grow(peer, rng, path, stops):
     frames = []
     for _ in range(rng.randint(1, 8)):
         frame = random_frame(rng, letters)
+        if rng.random() < 0.2:
+            # Also where the frame has no room, and where a stop has left something to clear.
+            ours_refuses(peer, path, with_nan(rng, frame), 30)
         number, _, whole = peer.append(path, frame, 0)
         if number == 29:
             break
@@ -414,9 +497,7 @@ class Tests:
         make_older(path)
         assert self.peer.read(path) == 13
         create(self.peer, rng, path, 5_000, 4, 1, layers=[(2, 0)])
-        before = open(path, "rb").read()
-        assert self.peer.append(path, frames[0]) == (24, 0, 0)
-        assert open(path, "rb").read() == before
+        ours_refuses(self.peer, path, frames[0], 24)
 
     def odd_texts(self, rng, path):
         """Characters that are no text for the real library: ours reads them, and a reader of the
@@ -468,7 +549,7 @@ class Tests:
         frames = [random_frame(rng, letters) for _ in range(rng.randint(1, 5))]
         for frame in frames:
             assert self.peer.append(path, frame)[0] == 0
-        more = [random_frame(rng, ASCII) for _ in range(rng.randint(1, 5))]
+        more = [real_frame(rng) for _ in range(rng.randint(1, 5))]
         append_real(path, more)
         ours_reads(self.peer, path, frames + more)
         real_reads(path, frames + more, max(layer, self.layer))
@@ -482,7 +563,7 @@ class Tests:
         for frame in frames:
             assert self.peer.append(path, frame)[0] == 0
         real_reads(path, frames, layer)
-        more = [random_frame(rng, ASCII) for _ in range(rng.randint(1, 4))]
+        more = [real_frame(rng) for _ in range(rng.randint(1, 4))]
         append_real(path, more)
         assert header(path)[:2] == (256, 512)
         ours_reads(self.peer, path, frames + more)
@@ -504,7 +585,7 @@ class Tests:
         assert self.peer.append(path, frames[-1])[0] == 0
         ours_reads(self.peer, path, frames)
         real_reads(path, frames, layer)
-        more = spread(rng, [random_frame(rng, ASCII) for _ in range(rng.randint(1, 4))])
+        more = spread(rng, [real_frame(rng) for _ in range(rng.randint(1, 4))])
         append_real(path, more)
         ours_reads(self.peer, path, frames + more)
         real_reads(path, frames + more, max(layer, self.layer))
@@ -526,6 +607,53 @@ class Tests:
         ours_reads(self.peer, path, [{}, *frames])
         assert all(map(corrupt, readers(path)))
 
+    def infinities(self, rng, path):
+        """Ours takes no NaN; with infinities in their place it takes the frames, and all read them."""
+        letters = create(self.peer, rng, path, 20_000, rng.choice([1, 2, 64]), rng.choice([1, 16]))
+        layer = layer_of(path)
+        frames = []
+        for _ in range(rng.randint(1, 3)):
+            frame = with_nan(rng, random_frame(rng, letters))
+            ours_refuses(self.peer, path, frame, 30)
+            frames.append(without_nans(frame))
+            assert self.peer.append(path, frames[-1])[0] == 0
+        names, _ = self.peer.read(path)
+        real_reads(path, frames, layer, names)
+        ours_reads(self.peer, path, frames, names)
+
+    def real_nans(self, rng, path):
+        """A file of the real library with NaNs in every frame: ours reads each bit, and appends to it,
+        but none of its frames."""
+        frames = [with_nan(rng, real_frame(rng)) for _ in range(rng.randint(1, 5))]
+        write_real(path, frames)
+        self.both_read(path, frames)
+        self.grown_over_nans(rng, path, frames)
+
+    def real_nans_in_ours(self, rng, path):
+        """The same of an image of ours to which the real library appended NaNs."""
+        letters = create(self.peer, rng, path, 10_000, 64, 16)
+        layer = layer_of(path)
+        frame = random_frame(rng, letters)
+        assert self.peer.append(path, frame)[0] == 0
+        frames = [frame, *(with_nan(rng, real_frame(rng)) for _ in range(rng.randint(1, 5)))]
+        append_real(path, frames[1:])
+        real_reads(path, frames, max(layer, self.layer))
+        self.grown_over_nans(rng, path, frames)
+
+    def grown_over_nans(self, rng, path, frames):
+        """Frames with NaNs are refused; without them they are taken, behind those that have them."""
+        layer = layer_of(path)
+        make_longer(path)
+        ours_reads(self.peer, path, frames)
+        for frame in filter(holds_nan, frames):
+            ours_refuses(self.peer, path, frame, 30)
+        more = [without_nans(frames[-1]), random_frame(rng)]
+        for frame in more:
+            assert self.peer.append(path, frame)[0] == 0
+        ours_refuses(self.peer, path, frames[-1], 30)
+        ours_reads(self.peer, path, frames + more)
+        real_reads(path, frames + more, layer)
+
     def ours_grows_real(self, rng, path):
         """We append to the real library's file, and both read all of it."""
         frames = random_frames(rng, 40)
@@ -538,8 +666,7 @@ class Tests:
         make_longer(path)
         frame = random_frame(rng, LETTERS if layer == (2, 1) else "")
         number, done, whole = self.peer.append(path, frame)
-        index, _, names, _ = header(path)
-        if index % 8 or names % 8:
+        if not aligned(path):
             assert number == 21
         else:
             assert (number, done) == (0, whole)
@@ -547,9 +674,9 @@ class Tests:
         ours_reads(self.peer, path, frames)
         real_reads(path, frames, layer)
 
-    def stored(self, rng, path, stored, first):
+    def stored(self, rng, path, stored, first, nans):
         """A stored file: what both read is the same, also when it has grown, or it is refused as its
-        listing's first line says."""
+        listing's first line says. Frames with NaNs are not appended again, also where there is no room."""
         shutil.copyfile(stored, path)
         found = self.peer.read(path)
         if isinstance(found, int):
@@ -565,6 +692,10 @@ class Tests:
                 return
         # Frames without a chunk behind the last one are not told from no frame at all.
         real_reads(path, frames, layer_of(path), names)
+        again = list(filter(holds_nan, frames))
+        assert bool(again) == nans
+        for frame in again:
+            ours_refuses(self.peer, path, frame, 30 if aligned(path) else 21)
         self.grown(rng, path, frames)
 
 
@@ -601,10 +732,13 @@ def main():
         tests.test("files of gsd.fl with gaps, read and grown by ours", 60, tests.real_file_with_gaps)
         tests.test("ours with gaps, grown by both", 60, tests.both_grow_gaps)
         tests.test("a frame not below the slots, corrupt for gsd.fl and gsd.pygsd", 1, tests.far_frame)
+        tests.test("ours with infinities where NaNs were refused", 60, tests.infinities)
+        tests.test("files of gsd.fl with NaNs, read and grown by ours", 60, tests.real_nans)
+        tests.test("ours with NaNs of gsd.fl, grown by ours", 30, tests.real_nans_in_ours)
         listed = first_lines(os.path.join(files, "stdout"))
         for name in stored_files(os.path.join(files, "data")):
-            stored, first = os.path.join(files, "data", name), listed[name]
-            tests.test(f"stored {name}", 1, lambda rng, path: tests.stored(rng, path, stored, first))
+            stored, first, nans = os.path.join(files, "data", name), listed[name], name in STORED_WITH_NANS
+            tests.test(f"stored {name}", 1, lambda rng, path: tests.stored(rng, path, stored, first, nans))
     print(f"{tests.passed} passed, {tests.failed} failed")
     return 1 if tests.failed else 0
 

@@ -1,2 +1,3 @@
--- Laws of the search for a zero byte.
+-- Laws of the search for a zero byte, and of the sign bit.
+pub mod Signs
 pub mod Zeros

@@ -1,4 +1,4 @@
-// Bytes of a slice: little-endian numbers read and stored, parts compared, zeros found and written, the magic, the types.
+// Bytes of a slice: little-endian numbers read and stored, parts compared, zeros found and written, NaNs found, the magic, the types.
 ghost use mathlib.Core.Path.{_≡_};
 ghost use Prim.Native.Nat.{_+_, _-_, _*_, _≤_, _<_};
 ghost use lib.ListN.{length, take};
@@ -6,8 +6,13 @@ ghost use Rattle.gsd_format.specs.Bytes.{le, leBytes, part, same, zeros, stored
 ghost use Rattle.gsd_format.specs.Header.{magic};
 ghost use Rattle.gsd_format.specs.Types.{sizeOf, lastType, known};
 
+mod floats;
 mod scan;
 
+pub use floats::any_nan32;
+pub use floats::any_nan64;
+pub use floats::nan32;
+pub use floats::nan64;
 pub use scan::first_zero;
 pub use scan::has_zero;
 

@@ -7,6 +7,8 @@ use gsd_bytes::INT16;
 use gsd_bytes::INT32;
 use gsd_bytes::INT64;
 use gsd_bytes::UINT64;
+use gsd_bytes::nan32;
+use gsd_bytes::nan64;
 use gsd_bytes::size_of;
 use gsd_bytes::u16_at;
 use gsd_bytes::u32_at;
@@ -19,7 +21,7 @@ ghost use mathlib.Core.Bool.{cond};
 ghost use Prim.Native.Nat.{_+_, _*_, _-_, _/_, _^_, _≤_, _<_};
 ghost use lib.Dec.{ltb};
 ghost use lib.IntN.{pos, negsuc};
-ghost use lib.Ieee.{binary32, binary64, ofBits, nanBits};
+ghost use lib.Ieee.{binary32, binary64, ofBits};
 ghost use lib.ListN.{length};
 ghost use Rattle.gsd_format.specs.Bytes.{le};
 ghost use Rattle.gsd_format.specs.Types.{sizeOf};
@@ -37,19 +39,6 @@ fn signed_of(bits: u64, half: u64) -> i64
         return bits as i64;
     }
     -1 - ((half - 1 - (bits - half)) as i64)
-}
-
-// Is the pattern a NaN's?
-fn nan32(bits: u32) -> bool
-    ensures answer { λ r. ⌜ r ≡ nanBits binary32 bits ⌝ }
-{
-    0x7f80_0000 < bits % 0x8000_0000
-}
-
-fn nan64(bits: u64) -> bool
-    ensures answer { λ r. ⌜ r ≡ nanBits binary64 bits ⌝ }
-{
-    0x7ff0_0000_0000_0000 < bits % 0x8000_0000_0000_0000
 }
 
 // The float of a pattern. A NaN is made by division: its own pattern cannot be asked for.

@@ -1,9 +1,15 @@
--- Every element of a list, or one of them: laws over places, appends, parts and maps.
-use Prim.Native.Nat.{ℕ, zero, suc, _<_}
+-- Every element of a list, or one of them: laws over places, appends, parts, maps and tests.
+use Prim.Native.Nat.{ℕ, zero, suc, _+_, _≤_, _<_}
+use mathlib.Core.Path.{_≡_, refl, sym, _∙_}
+use mathlib.Core.Bool.{Bool, true, false, true≢false, _||_}
 use mathlib.Core.Logic.{_⊎_, inl, inr}
 use mathlib.Core.List.{List, [], _∷_, _++_, map}
+use native.Mathlib.Numerals.{add-one}
 use native.Mathlib.Omega.{arith}
-use lib.ListN.{length, getD, take, drop}
+use lib.ListN.{length, getD, take, drop, drop-of-length-le}
+use lib.Seq.{drop-cons}
+use Rattle.gsd_format.specs.Refusals.{oneOf}
+use Rattle.gsd_format.proofs.Refusals.{neither, neither-of, left-holds, right-holds, right-decides}
 
 -- P holds of each element
 abbrev pub Each : {A : Type 0} → (A → Type 0) → List A → Type 0
@@ -97,3 +103,39 @@ module _ {A : Type 0} (P Q : A → Type 0) where
   any-each [] h g = absurd g
   any-each (x ∷ xs) h (inl q) = (x, h .0, q)
   any-each (x ∷ xs) h (inr g) = any-each xs (h .1) g
+
+-- whether a test holds of one
+module _ {A : Type 0} (p : A → Bool) where
+  pub one-false : (l : List A) → oneOf p l ≡ false → Each (λ x. p x ≡ false) l
+  unfolding oneOf
+  one-false [] h = tt
+  one-false (x ∷ xs) h = let r = neither (p x) _ h in (r .0, one-false xs (r .1))
+
+  pub false-one : (l : List A) → Each (λ x. p x ≡ false) l → oneOf p l ≡ false
+  unfolding oneOf
+  false-one [] h = refl
+  false-one (x ∷ xs) h = neither-of (p x) _ (h .0) (false-one xs (h .1))
+
+  pub one-true : (l : List A) → oneOf p l ≡ true → Any (λ x. p x ≡ true) l
+  unfolding oneOf
+  one-true [] h = absurd (true≢false (sym h))
+  one-true (x ∷ xs) h = go (one-true xs) (p x) refl
+    where
+      go : (oneOf p xs ≡ true → Any (λ y. p y ≡ true) xs) → (b : Bool) → p x ≡ b → Any (λ y. p y ≡ true) (x ∷ xs)
+      go f true e = inl e
+      go f false e = inr (f (sym (right-decides (p x) _ e) ∙ h))
+
+  pub true-one : (l : List A) → Any (λ x. p x ≡ true) l → oneOf p l ≡ true
+  unfolding oneOf
+  true-one [] h = absurd h
+  true-one (x ∷ xs) (inl e) = left-holds (p x) _ e
+  true-one (x ∷ xs) (inr h) = right-holds (p x) _ (true-one xs h)
+
+  -- from the i-th on: the i-th, or one behind it
+  pub one-next : (l : List A) (d : A) (i : ℕ) → i < length l → oneOf p (drop i l) ≡ (p (getD l i d) || oneOf p (drop (i + 1) l))
+  unfolding oneOf
+  one-next l d i h = rw (add-one, drop-cons l i d)
+
+  pub one-end : (l : List A) (i : ℕ) → length l ≤ i → oneOf p (drop i l) ≡ false
+  unfolding oneOf
+  one-end l i h = rw (drop-of-length-le l h)

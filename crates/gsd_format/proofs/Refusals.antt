@@ -73,6 +73,17 @@ unfolding _⇒_
 test-most k true n h = h
 test-most k false n h = omega arith
 
+-- a chain doesn't give n where none of its tests does
+pub first-not : (n a b : ℕ) → (a ≡ n → ⊥) → (b ≡ n → ⊥) → a ▹ b ≡ n → ⊥
+unfolding _▹_
+first-not n zero b h g e = g e
+first-not n (suc a) b h g e = h e
+
+pub test-not : (n : ℕ) (t : Bool) (k : ℕ) → 0 < n → (k ≡ n → ⊥) → t ⇒ k ≡ n → ⊥
+unfolding _⇒_
+test-not n true k p h e = h e
+test-not n false k p h e = omega (arith, e)
+
 pub neither : (a b : Bool) → (a || b) ≡ false → (a ≡ false) × (b ≡ false)
 neither true b h = absurd (true≢false h)
 neither false b h = (refl, h)
@@ -84,6 +95,10 @@ neither-of false b h g = g
 pub left-holds : (a b : Bool) → a ≡ true → (a || b) ≡ true
 left-holds true b h = refl
 left-holds false b h = absurd (true≢false (sym h))
+
+pub right-holds : (a b : Bool) → b ≡ true → (a || b) ≡ true
+right-holds true b h = refl
+right-holds false b h = h
 
 pub right-decides : (a b : Bool) → a ≡ false → (a || b) ≡ b
 right-decides true b h = absurd (true≢false h)

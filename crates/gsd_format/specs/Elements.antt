@@ -1,7 +1,8 @@
--- Elements: the k-th of a chunk, read by the chunk's type, with its exact bits; 43 after the lookup's numbers.
-use Prim.Native.Nat.{ℕ, _+_, _*_, _-_, _/_, _^_}
+-- Elements: the k-th of a chunk, read by the chunk's type, with its exact bits; 43 after the lookup's numbers; NaNs.
+use Prim.Native.Nat.{ℕ, zero, suc, _+_, _*_, _-_, _/_, _^_}
+use mathlib.Core.Path.{_≡_}
 use mathlib.Core.List.{List}
-use mathlib.Core.Bool.{true, false, _||_}
+use mathlib.Core.Bool.{Bool, true, false, _&&_, _||_}
 use lib.Dec.{ltb, leb, eqb}
 use lib.IntN.{ℤ, pos, negsuc}
 use lib.Ieee as Ieee
@@ -28,6 +29,19 @@ elementOf kind bits = elim (leb kind 4 || eqb kind 11) [
     ]
   ]
 ]
+
+-- NaN: a float or double that is not a number, quiet or signalling, of either sign; infinities are numbers. No other type has one
+unfoldable pub nanElement : ℕ → ℕ → Bool
+nanElement kind bits = elim (eqb kind 9) [ true ↦ Ieee.nanBits Ieee.binary32 bits | false ↦ eqb kind 10 && Ieee.nanBits Ieee.binary64 bits ]
+
+-- the k-th element from a place on is one
+abbrev pub NanAt : ℕ → List ℕ → ℕ → ℕ → Type 0
+NanAt kind s at k = nanElement kind (le (sizeOf kind) s (at + k * sizeOf kind)) ≡ true
+
+-- is one of the n elements from a place on a NaN?
+unfoldable pub anyNan : ℕ → List ℕ → ℕ → ℕ → Bool
+anyNan kind s at zero = false
+anyNan kind s at (suc n) = anyNan kind s at n || nanElement kind (le (sizeOf kind) s (at + n * sizeOf kind))
 
 -- the k-th element of an entry's chunk
 unfoldable pub elementIn : List ℕ → Entry → ℕ → Element

@@ -3,11 +3,10 @@ use Prim.Native.Nat.{ℕ, suc, _+_, _*_, _-_, _/_, _≤_, _<_}
 use mathlib.Core.Path.{_≡_, refl, sym, _∙_, ap}
 use mathlib.Core.Bool.{Bool, true, false, not, _||_}
 use mathlib.Core.List.{List, []}
-use native.Mathlib.Nat.{mul-assoc, mul-le-mul, div-lt-iff-lt-mul}
+use native.Mathlib.Nat.{zero-add, mul-assoc, mul-le-mul, div-lt-iff-lt-mul, mul-div-cancel}
 use native.Mathlib.Numerals.{add-one}
 use native.Mathlib.Omega.{arith}
-use lib.ListN.{length, getD, drop, drop-of-length-le, length-map, List·getD-map}
-use lib.Seq.{drop-cons}
+use lib.ListN.{length, getD, length-map, List·getD-map}
 use lib.Dec.{ltb, eqb}
 use borrow.Author.Tests.{ltb-true, ltb-false, lt-ltb, le-ltb, eq-eqb, ne-eqb}
 use Rattle.gsd_format.specs.Bytes.{le, part, zeroIn}
@@ -17,12 +16,15 @@ use Rattle.gsd_format.specs.Opening.{twins}
 use Rattle.gsd_format.specs.Refusals.{_⇒_, _▹_}
 use Rattle.gsd_format.proofs.Refusals.{both, first-of, stays, ▹-assoc, unmet, neither, not-less, differ-no, same-test}
 use Rattle.gsd_format.proofs.Ids.{index-at, index-least, index-is, places-distinct, distinct-twins, twin-twins}
-use Rattle.gsd_stores.specs.Sheet.{rowKind, nameSize, bodySize, badRow, badTable, bodiesEnd, rowCount, tableEnd, rowsOf, anyZero, mostRows, sheetTest}
+use Rattle.gsd_stores.specs.Sheet.{rowKind, nameSize, bodySize, badRow, badTable, bodiesEnd, rowCount, tableEnd, rowsOf, nanRow, mostRows, formTest, sheetTest}
 use Rattle.gsd_stores.specs.Demand3.{noRow}
 use Rattle.gsd_stores.specs.Sheet.{rowAt, nameAt, bodyAt, Exact}
-use Rattle.gsd_stores.proofs.Sheet.{start-first, start-next, start-rises, bodies-end, rows-count, row-at, name-inside, body-inside, name-length, name-zero}
+use Rattle.gsd_format.specs.Elements.{anyNan}
+use Rattle.gsd_format.proofs.Elements.{nan-same}
+use Rattle.gsd_stores.proofs.Sheet.{start-first, start-next, start-rises, bodies-end, rows-count, row-at, name-behind, name-inside, body-inside}
+use Rattle.gsd_stores.proofs.Sheet.{name-length, name-zero, body-length, body-text, body-size}
 use Rattle.gsd_sheet.specs.Columns.{nameFrom, dataFrom, Filled, Kept}
-use Rattle.gsd_sheet.specs.Rows.{tableTest, endTest, namesTest, sheetNames, nameOf, repeats, Located}
+use Rattle.gsd_sheet.specs.Rows.{tableTest, endTest, rowsTest, sheetNames, nameOf, repeats, Located}
 use Rattle.gsd_sheet.proofs.Columns.{filled-kept}
 
 -- the size of a row's type, and whether a version knows it, found in two steps
@@ -158,6 +160,31 @@ module _ {s c : List ℕ} (h : Located s c) (i : ℕ) (l : i < rowCount s) where
   pub located-zero : zeroIn (nameOf s i) 0 (length (nameOf s i)) ≡ zeroIn s (nameFrom c i) (dataFrom c i - nameFrom c i)
   located-zero = rw name-row (name-zero s (h .exact) i l ∙ rw (name-span, h .name .at i (omega arith)))
 
+  -- row i of the table
+  pub located-row : rowAt i + 16 ≤ length s
+  located-row = omega (arith, name-behind s (h .exact) i l, name-inside s (h .exact) i l)
+
+  pub located-kind : getD (rowsOf s) i noRow .kind ≡ rowKind s (rowAt i)
+  located-kind = ap (λ r. r .kind) (row-at s i l)
+
+  -- a row of a type of this size: how many elements its data are, and whether one of them, where they lie in the sheet, is a NaN
+  module _ (kind size : ℕ) (typed : rowKind s (rowAt i) ≡ kind) (sized : sizeOf kind ≡ size) where
+    type-is : getD (rowsOf s) i noRow .kind ≡ kind
+    type-is = located-kind ∙ typed
+
+    body-is : length (getD (rowsOf s) i noRow .body) ≡ getD (rowsOf s) i noRow .n * getD (rowsOf s) i noRow .m * size
+    body-is = body-size s (h .exact) i l ∙ ap (λ k. getD (rowsOf s) i noRow .n * getD (rowsOf s) i noRow .m * k) (ap sizeOf type-is ∙ sized)
+
+    located-count : 0 < size → (nameFrom c (i + 1) - dataFrom c i) / size ≡ getD (rowsOf s) i noRow .n * getD (rowsOf s) i noRow .m
+    located-count p = ap (λ k. k / size) (body-span ∙ sym (body-length s (h .exact) i l) ∙ body-is) ∙ mul-div-cancel (getD (rowsOf s) i noRow .n * getD (rowsOf s) i noRow .m) p
+
+    pub located-nan : 0 < size → anyNan kind s (dataFrom c i) ((nameFrom c (i + 1) - dataFrom c i) / size) ≡ nanRow (getD (rowsOf s) i noRow)
+    located-nan p =
+        let r = getD (rowsOf s) i noRow in
+        ap (anyNan kind s (dataFrom c i)) (located-count p) ∙ ap (λ q. anyNan kind s q (r .n * r .m)) (h .body .at i l)
+        ∙ sym (nan-same (r .n * r .m) kind (r .body) 0 s (bodyAt s i) (λ k m. ap (λ j. getD (r .body) j 0) (zero-add k) ∙ sym (body-text s (h .exact) i l k (rw (body-is, ← sized) m))))
+        ∙ ap (λ k. anyNan k (r .body) 0 (r .n * r .m)) (sym type-is)
+
 -- later columns may change
 pub located-kept : {s c c′ : List ℕ} → Located s c → Kept 129 c c′ → Located s c′
 located-kept h k = record {
@@ -168,16 +195,6 @@ located-kept h k = record {
 }
 
 -- Names
-
--- 26: is there a zero in the names from the i-th on?
-pub zero-next : (ns : List (List ℕ)) (i : ℕ) → i < length ns
-    → anyZero (drop i ns) ≡ (zeroIn (getD ns i []) 0 (length (getD ns i [])) || anyZero (drop (i + 1) ns))
-unfolding anyZero
-zero-next ns i l = rw (add-one, drop-cons ns i [])
-
-pub zero-none : (ns : List (List ℕ)) (i : ℕ) → length ns ≤ i → anyZero (drop i ns) ≡ false
-unfolding anyZero
-zero-none ns i l = rw (drop-of-length-le ns l)
 
 -- 27: a name is repeated when one before it is the same
 pub repeats-yes : (ns : List (List ℕ)) (i j : ℕ) → j < i → i < length ns → getD ns j [] ≡ getD ns i [] → repeats ns i ≡ true
@@ -214,8 +231,8 @@ tabled version s h =
 
 -- the first part that refuses decides
 module _ (version : ℕ) (s : List ℕ) where
-  parts : sheetTest version s ≡ tableTest version s ▹ endTest s ▹ namesTest s
-  unfolding sheetTest tableTest endTest namesTest
+  parts : sheetTest version s ≡ tableTest version s ▹ endTest s ▹ rowsTest s
+  unfolding formTest sheetTest tableTest endTest rowsTest
   parts = simp ▹-assoc
 
   pub number-table : (tableTest version s ≡ 0 → ⊥) → sheetTest version s ≡ tableTest version s
@@ -224,5 +241,5 @@ module _ (version : ℕ) (s : List ℕ) where
   pub number-end : tableTest version s ≡ 0 → (endTest s ≡ 0 → ⊥) → sheetTest version s ≡ endTest s
   number-end e f = parts ∙ first-of _ _ e ∙ stays _ _ f
 
-  pub number-names : tableTest version s ≡ 0 → endTest s ≡ 0 → sheetTest version s ≡ namesTest s
-  number-names e f = parts ∙ first-of _ _ e ∙ first-of _ _ f
+  pub number-rows : tableTest version s ≡ 0 → endTest s ≡ 0 → sheetTest version s ≡ rowsTest s
+  number-rows e f = parts ∙ first-of _ _ e ∙ first-of _ _ f

@@ -7,7 +7,7 @@ use lib.Dec.{ltb, eqb}
 use Rattle.gsd_format.specs.Refusals.{_⇒_, _▹_}
 use Rattle.gsd_format.specs.Names.{indexOf}
 use Rattle.gsd_format.specs.Opening.{twins}
-use Rattle.gsd_stores.specs.Sheet.{badTable, bodiesEnd, rowCount, tableEnd, rowsOf, rowNames, anyZero, mostRows, nameAt, bodyAt, Exact}
+use Rattle.gsd_stores.specs.Sheet.{badTable, bodiesEnd, rowCount, tableEnd, rowsOf, rowNames, anyZero, anyNanRow, mostRows, nameAt, bodyAt, Exact}
 use Rattle.gsd_sheet.specs.Columns.{nameFromColumn, dataFromColumn, Filled}
 
 -- the names of the rows, and that of row i
@@ -17,7 +17,7 @@ sheetNames s = rowNames (rowsOf s)
 abbrev pub nameOf : List ℕ → ℕ → List ℕ
 nameOf s i = getD (sheetNames s) i []
 
--- the sheet's test in three parts: 22 to 24, 25, 26 and 27
+-- the sheet's test in three parts: 22 to 24, 25, and of rows that lie in the sheet 26, 27 and 30
 unfoldable pub tableTest : ℕ → List ℕ → ℕ
 tableTest version s =
     (ltb (length s) 4 || eqb (rowCount s) 0 || ltb mostRows (rowCount s) ⇒ 22)
@@ -27,8 +27,8 @@ tableTest version s =
 unfoldable pub endTest : List ℕ → ℕ
 endTest s = not (eqb (length s) (bodiesEnd s 4 (tableEnd s) (rowCount s))) ⇒ 25
 
-unfoldable pub namesTest : List ℕ → ℕ
-namesTest s = (anyZero (sheetNames s) ⇒ 26) ▹ (twins (sheetNames s) ⇒ 27)
+unfoldable pub rowsTest : List ℕ → ℕ
+rowsTest s = (anyZero (sheetNames s) ⇒ 26) ▹ (twins (sheetNames s) ⇒ 27) ▹ (anyNanRow (rowsOf s) ⇒ 30)
 
 -- is the i-th name one of those before it?
 abbrev pub repeats : List (List ℕ) → ℕ → Bool

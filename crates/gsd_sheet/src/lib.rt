@@ -1,4 +1,8 @@
-// The append sheet: its tests, numbers 22 to 27, and where the name and the data of each row lie in it.
+// The append sheet: its tests, numbers 22 to 27 and 30, and where the name and the data of each row lie in it.
+use gsd_bytes::DOUBLE;
+use gsd_bytes::FLOAT;
+use gsd_bytes::any_nan32;
+use gsd_bytes::any_nan64;
 use gsd_bytes::has_zero;
 use gsd_bytes::known;
 use gsd_bytes::same_part;
@@ -9,15 +13,16 @@ use gsd_bytes::u64_at;
 use gsd_bytes::wide;
 ghost use mathlib.Core.Path.{_≡_};
 ghost use Prim.Native.Nat.{_+_, _*_, _≤_, _<_, min};
-ghost use lib.ListN.{length};
+ghost use lib.ListN.{length, getD};
 ghost use lib.Dec.{ltb};
 ghost use Rattle.gsd_format.specs.Bytes.{same};
 ghost use Rattle.gsd_format.specs.Types.{sizeOf};
 ghost use Rattle.gsd_format.specs.Opening.{twins};
 ghost use Rattle.gsd_stores.specs.Sheet.{tableStart, rowSize, rowN, rowM, rowKind, nameSize, bodySize, badRow, badTable};
-ghost use Rattle.gsd_stores.specs.Sheet.{rowCount, tableEnd, anyZero, sheetTest, rowAt};
+ghost use Rattle.gsd_stores.specs.Sheet.{rowCount, tableEnd, rowsOf, anyZero, nanRow, anyNanRow, sheetTest, rowAt};
+ghost use Rattle.gsd_stores.specs.Demand3.{noRow};
 ghost use Rattle.gsd_sheet.specs.Columns.{planWords};
-ghost use Rattle.gsd_sheet.specs.Rows.{tableTest, endTest, namesTest, Located, sheetNames, nameOf, repeats};
+ghost use Rattle.gsd_sheet.specs.Rows.{tableTest, endTest, rowsTest, Located, sheetNames, nameOf, repeats};
 
 const MOST_ROWS: usize = 64;
 
@@ -276,11 +281,48 @@ fn twin_named(sheet: &[u8], count: usize, plan: &[u64]) -> bool
     false
 }
 
-fn names_number(sheet: &[u8], count: usize, plan: &[u64]) -> u64
+// Does row i hold a NaN? Floats and doubles can.
+fn nan_row(sheet: &[u8], plan: &[u64], i: usize) -> bool
+    requires long { ⌜ length (now plan) ≡ planWords ⌝ }
+    requires located { ⌜ Located (now sheet) (now plan) ⌝ }
+    requires row { ⌜ i < rowCount (now sheet) ⌝ }
+    ensures { λ r. ⌜ r ≡ nanRow (getD (rowsOf (now (sheet .entry))) i noRow) ⌝ }
+{
+    let at = plan[DATA_FROM + i] as usize;
+    let size = plan[NAME_FROM + (i + 1)] as usize - at;
+    let kind = row_kind(sheet, i);
+    if kind == FLOAT {
+        return any_nan32(sheet, at, size / 4);
+    }
+    if kind == DOUBLE {
+        return any_nan64(sheet, at, size / 8);
+    }
+    false
+}
+
+// 30: does one of the rows?
+fn any_nan_row(sheet: &[u8], count: usize, plan: &[u64]) -> bool
     requires long { ⌜ length (now plan) ≡ planWords ⌝ }
     requires located { ⌜ Located (now sheet) (now plan) ⌝ }
     requires counted { ⌜ count ≡ rowCount (now sheet) ⌝ }
-    ensures { λ r. ⌜ r ≡ namesTest (now (sheet .entry)) ⌝ }
+    ensures { λ r. ⌜ r ≡ anyNanRow (rowsOf (now (sheet .entry))) ⌝ }
+{
+    let mut i = 0;
+    while i < count {
+        if nan_row(sheet, plan, i) {
+            return true;
+        }
+        i += 1;
+    }
+    false
+}
+
+// 26, 27 and 30, of rows that lie in the sheet.
+fn rows_number(sheet: &[u8], count: usize, plan: &[u64]) -> u64
+    requires long { ⌜ length (now plan) ≡ planWords ⌝ }
+    requires located { ⌜ Located (now sheet) (now plan) ⌝ }
+    requires counted { ⌜ count ≡ rowCount (now sheet) ⌝ }
+    ensures { λ r. ⌜ r ≡ rowsTest (now (sheet .entry)) ⌝ }
 {
     if zero_named(sheet, count, plan) {
         return 26;
@@ -288,10 +330,13 @@ fn names_number(sheet: &[u8], count: usize, plan: &[u64]) -> u64
     if twin_named(sheet, count, plan) {
         return 27;
     }
+    if any_nan_row(sheet, count, plan) {
+        return 30;
+    }
     0
 }
 
-// 22 to 27 for an image of this version, and where that is 0 the plan says where the rows' names and data lie.
+// 22 to 27 and 30 for an image of this version, and where that is 0 the plan says where the rows' names and data lie.
 pub fn sheet_rows(version: u64, sheet: &[u8], plan: &mut [u64]) -> u64
     requires { ⌜ length (now plan) ≡ planWords ⌝ }
     ensures answer { λ r. ⌜ r ≡ sheetTest version (now (sheet .entry)) ⌝ }
@@ -306,5 +351,5 @@ pub fn sheet_rows(version: u64, sheet: &[u8], plan: &mut [u64]) -> u64
     if number != 0 {
         return number;
     }
-    names_number(sheet, count, plan)
+    rows_number(sheet, count, plan)
 }

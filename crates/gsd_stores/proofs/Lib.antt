@@ -26,5 +26,6 @@ pub mod Moments
 pub mod Runs
 pub mod Demand3
 -- Beside demand 3.
+pub mod Readings
 pub mod Limits
 pub mod Places

@@ -66,7 +66,7 @@ zeroth : (x : List ℕ) (c : Call) → afterStores x c 0 ≡ x
 zeroth x c = after-none x
 
 -- whether the last store was made
-made-both : (x : List ℕ) (c : Call) → lastStoreMade x c ≡ true → (appendTest x (c .sheet) ≡ 0) × (length (storesFor x (c .sheet)) ≤ c .limit)
+pub made-both : (x : List ℕ) (c : Call) → lastStoreMade x c ≡ true → (appendTest x (c .sheet) ≡ 0) × (length (storesFor x (c .sheet)) ≤ c .limit)
 unfolding lastStoreMade
 made-both x c h =
     let b = both-true _ _ h in

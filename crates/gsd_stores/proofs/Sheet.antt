@@ -2,7 +2,7 @@
 use Prim.Native.Nat.{ℕ, zero, suc, _+_, _*_, _^_, _≤_, _<_}
 use mathlib.Core.Path.{_≡_, refl, sym, _∙_, ap}
 use mathlib.Core.Bool.{true, false, not, _||_}
-use mathlib.Core.List.{List, [], _∷_}
+use mathlib.Core.List.{List}
 use native.Mathlib.Nat.{zero-add}
 use native.Mathlib.Decide.{ℕ-discrete}
 use native.Mathlib.Omega.{arith}
@@ -11,7 +11,7 @@ use lib.Dec.{ltb, eqb}
 use borrow.Author.Tests.{ltb-false, eqb-true, eqb-false, not-false, le-ltb, eq-eqb, ne-eqb}
 use Rattle.gsd_format.specs.Bytes.{le, part, zeroIn}
 use Rattle.gsd_format.specs.Types.{sizeOf, known}
-use Rattle.gsd_format.proofs.Lists.{Each, each-at, at-each, map-each, each-map}
+use Rattle.gsd_format.proofs.Lists.{Each, each-at, at-each, map-each, each-map, one-false, false-one}
 use Rattle.gsd_format.proofs.Refusals.{both, none-of, unmet, passed, neither, neither-of, not-of, not-less, less-no, no-differ, differ-no}
 use Rattle.gsd_format.proofs.Bytes.{Octets, Text, le-bound, part-length, no-zero, zero-out, zeroIn-same}
 use Rattle.gsd_format.proofs.Texts.{part-text}
@@ -19,7 +19,7 @@ use Rattle.gsd_format.specs.Names.{Distinct}
 use Rattle.gsd_format.proofs.Ids.{twins-distinct, distinct-twins}
 use Rattle.gsd_format.proofs.Names.{Named, Full, part-named}
 use Rattle.gsd_stores.specs.Sheet.{Row, rowKind, nameSize, bodySize, badRow, badTable, bodiesEnd, rowsAt, rowCount, tableEnd}
-use Rattle.gsd_stores.specs.Sheet.{rowPlace, startAt, rowsOf, rowAt, nameAt, bodyAt, Exact, rowNames, anyZero, mostRows, sheetTest}
+use Rattle.gsd_stores.specs.Sheet.{rowPlace, startAt, rowsOf, rowAt, nameAt, bodyAt, Exact, rowNames, mostRows, anyNanRow, formTest, sheetTest}
 use Rattle.gsd_stores.specs.Demand3.{noRow}
 
 -- Places in the sheet
@@ -153,17 +153,6 @@ table-good version (suc n) s t h =
     neither-of _ _ (row-good version s t (let e : rowPlace t 0 ≡ t = omega arith in rw e at (h 0 (omega arith))))
     (table-good version n s (t + 16) (λ i l. let e : rowPlace t (suc i) ≡ rowPlace (t + 16) i = omega arith in rw e at (h (suc i) (omega arith))))
 
--- 26
-full-names : (ns : List (List ℕ)) → anyZero ns ≡ false → Each (λ b. zeroIn b 0 (length b) ≡ false) ns
-unfolding anyZero
-full-names [] h = tt
-full-names (b ∷ ns) h = let r = neither (zeroIn b 0 (length b)) _ h in (r .0, full-names ns (r .1))
-
-names-full : (ns : List (List ℕ)) → Each (λ b. zeroIn b 0 (length b) ≡ false) ns → anyZero ns ≡ false
-unfolding anyZero
-names-full [] h = refl
-names-full (b ∷ ns) h = neither-of (zeroIn b 0 (length b)) _ (h .0) (names-full ns (h .1))
-
 pub record Accepted (version : ℕ) (s : List ℕ) : Type 0 where
   pub long : 4 ≤ length s
   pub some : 0 < rowCount s
@@ -173,11 +162,13 @@ pub record Accepted (version : ℕ) (s : List ℕ) : Type 0 where
   pub exact : Exact s
   pub full : (i : ℕ) → i < rowCount s → Full s (nameAt s i) (nameSize s (rowAt i))
   pub distinct : Distinct (rowNames (rowsOf s))
+  pub numbers : anyNanRow (rowsOf s) ≡ false
 
 pub accepted : (version : ℕ) (s : List ℕ) → sheetTest version s ≡ 0 → Accepted version s
-unfolding sheetTest
+unfolding formTest sheetTest
 accepted version s h =
-    let from22 = both _ _ h in
+    let parts = both (formTest version s) _ h in
+    let from22 = both _ _ (parts .0) in
     let from23 = both _ _ (from22 .1) in
     let from24 = both _ _ (from23 .1) in
     let from25 = both _ _ (from24 .1) in
@@ -187,7 +178,7 @@ accepted version s h =
     let some : (rowCount s ≡ 0 → ⊥) = eqb-false _ _ (low .1) in
     let exact : Exact s = no-differ _ _ _ (from25 .0) ∙ bodies-end (rowCount s) s 4 (tableEnd s) in
     let full : Each (λ r. zeroIn (r .name) 0 (length (r .name)) ≡ false) (rowsOf s) =
-    map-each _ (λ r. r .name) (rowsOf s) (full-names (rowNames (rowsOf s)) (unmet _ _ (from26 .0))) in
+    map-each _ (λ r. r .name) (rowsOf s) (one-false _ (rowNames (rowsOf s)) (unmet _ _ (from26 .0))) in
     record {
       long = ltb-false _ _ (low .0);
       some = omega arith;
@@ -197,18 +188,20 @@ accepted version s h =
       exact = exact;
       full = λ i l. no-zero s (nameAt s i) (nameSize s (rowAt i)) (sym (name-zero s exact i l) ∙ each-at _ (rowsOf s) noRow full i (rw rows-count l));
       distinct = twins-distinct (rowNames (rowsOf s)) (unmet _ _ (from26 .1));
+      numbers = unmet _ _ (parts .1);
     }
 
 pub accepts : (version : ℕ) (s : List ℕ) → Accepted version s → sheetTest version s ≡ 0
-unfolding sheetTest
+unfolding formTest sheetTest
 accepts version s h =
-    none-of _ _ (passed _ _ (neither-of (ltb (length s) 4 || eqb (rowCount s) 0) _
+    none-of _ _ (none-of _ _ (passed _ _ (neither-of (ltb (length s) 4 || eqb (rowCount s) 0) _
     (neither-of (ltb (length s) 4) _ (le-ltb _ _ (h .long)) (ne-eqb (rowCount s) 0 (λ e. omega arith))) (le-ltb _ _ (h .few))))
     (none-of _ _ (less-no _ _ _ (h .table))
     (none-of _ _ (passed _ _ (table-good version (rowCount s) s 4 (h .rows)))
     (none-of _ _ (differ-no _ _ _ (h .exact ∙ sym (bodies-end (rowCount s) s 4 (tableEnd s))))
-    (none-of _ _ (passed _ _ (names-full (rowNames (rowsOf s)) (each-map _ (λ r. r .name) (rowsOf s) (at-each _ (rowsOf s) noRow full))))
-    (passed _ _ (distinct-twins (rowNames (rowsOf s)) (h .distinct)))))))
+    (none-of _ _ (passed _ _ (false-one _ (rowNames (rowsOf s)) (each-map _ (λ r. r .name) (rowsOf s) (at-each _ (rowsOf s) noRow full))))
+    (passed _ _ (distinct-twins (rowNames (rowsOf s)) (h .distinct))))))))
+    (passed _ _ (h .numbers))
   where
     full : (i : ℕ) → i < length (rowsOf s) → zeroIn (getD (rowsOf s) i noRow .name) 0 (length (getD (rowsOf s) i noRow .name)) ≡ false
     full i l = let m : i < rowCount s = rw rows-count at l in name-zero s (h .exact) i m ∙ zero-out s (nameAt s i) (nameSize s (rowAt i)) (h .full i m)

@@ -7,3 +7,4 @@ pub mod Steps
 pub mod Append
 pub mod Runs
 pub mod Demand3
+pub mod Readings

@@ -1,4 +1,4 @@
--- The append sheet: a u32 count, 16 bytes for each row, then each row's name and data with nothing between; numbers 22 to 27.
+-- The append sheet: a u32 count, 16 bytes for each row, then each row's name and data with nothing between; numbers 22 to 27 and 30.
 use Prim.Native.Nat.{ℕ, zero, suc, _+_, _*_}
 use mathlib.Core.Path.{_≡_}
 use mathlib.Core.List.{List, [], _∷_, map}
@@ -6,9 +6,10 @@ use mathlib.Core.Bool.{Bool, false, not, _||_}
 use lib.ListN.{getD, length}
 use lib.Dec.{ltb, eqb}
 use Rattle.gsd_format.specs.Bytes.{le, part, zeroIn}
-use Rattle.gsd_format.specs.Refusals.{_⇒_, _▹_}
+use Rattle.gsd_format.specs.Refusals.{_⇒_, _▹_, oneOf}
 use Rattle.gsd_format.specs.Types.{sizeOf, known}
 use Rattle.gsd_format.specs.Opening.{twins}
+use Rattle.gsd_format.specs.Elements.{anyNan}
 
 -- a row as requested: its name, N, M, type and data
 pub record Row : Type 0 where
@@ -101,20 +102,30 @@ abbrev pub rowNames : List Row → List (List ℕ)
 rowNames rs = map (λ r. r .name) rs
 
 -- does one of the names hold a zero byte?
-unfoldable pub anyZero : List (List ℕ) → Bool
-anyZero [] = false
-anyZero (n ∷ ns) = zeroIn n 0 (length n) || anyZero ns
+abbrev pub anyZero : List (List ℕ) → Bool
+anyZero ns = oneOf (λ n. zeroIn n 0 (length n)) ns
 
 -- the greatest number of rows
 abbrev pub mostRows : ℕ
 mostRows = 64
 
--- 22 to 27, for an image of this version
-unfoldable pub sheetTest : ℕ → List ℕ → ℕ
-sheetTest version s =
+-- does a row hold a NaN among its N times M elements?
+abbrev pub nanRow : Row → Bool
+nanRow r = anyNan (r .kind) (r .body) 0 (r .n * r .m)
+
+abbrev pub anyNanRow : List Row → Bool
+anyNanRow rs = oneOf nanRow rs
+
+-- 22 to 27: the sheet's form, for an image of this version
+unfoldable pub formTest : ℕ → List ℕ → ℕ
+formTest version s =
     (ltb (length s) tableStart || eqb (rowCount s) 0 || ltb mostRows (rowCount s) ⇒ 22)
     ▹ (ltb (length s) (tableEnd s) ⇒ 23)
     ▹ (badTable version s tableStart (rowCount s) ⇒ 24)
     ▹ (not (eqb (length s) (bodiesEnd s tableStart (tableEnd s) (rowCount s))) ⇒ 25)
     ▹ (anyZero (rowNames (rowsOf s)) ⇒ 26)
     ▹ (twins (rowNames (rowsOf s)) ⇒ 27)
+
+-- and 30: a value that is not a number
+unfoldable pub sheetTest : ℕ → List ℕ → ℕ
+sheetTest version s = formTest version s ▹ (anyNanRow (rowsOf s) ⇒ 30)

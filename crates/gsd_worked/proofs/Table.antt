@@ -3,21 +3,21 @@ use mathlib.Core.Path.{_≡_, refl}
 use mathlib.Core.Bool.{true}
 use Rattle.gsd_format.specs.Bytes.{le, leBytes, same, zeroIn, stored}
 use Rattle.gsd_format.specs.Ascii.{ascii}
-use Rattle.gsd_format.specs.Refusals.{_⇒_, _▹_}
+use Rattle.gsd_format.specs.Refusals.{_⇒_, _▹_, oneOf}
 use Rattle.gsd_format.specs.Types.{sizeOf, lastType}
 use Rattle.gsd_format.specs.Header.{layoutOf}
 use Rattle.gsd_format.specs.Names.{partsAt, nameParts, namesOf, flat, indexOf}
 use Rattle.gsd_format.specs.Entries.{entryAt, entriesAt, entriesOf, framesFrom, chunksEnd}
 use Rattle.gsd_format.specs.Opening.{headerTest, blocksTest, twins, namesTest, entryTest, entriesTest, verdict, countsOf, opening}
 use Rattle.gsd_format.specs.Lookup.{nthEntry, nthName, findEntry, lookupIn, lookup, placed, chunkPlace, bytesAt}
-use lib.Ieee.{size, span, climb}
+use lib.Ieee.{size, span, climb, nanBits, top, hid, ones}
 use Rattle.gsd_format.specs.Search.{halve, lastProbe, probed, searched}
 use Rattle.gsd_format.specs.Calls.{unless, searchTest}
-use Rattle.gsd_format.specs.Elements.{elementOf, elementIn, element}
+use Rattle.gsd_format.specs.Elements.{elementOf, nanElement, anyNan, elementIn, element}
 use Rattle.gsd_format.specs.Create.{orDefault, createTest, freshHeader, fresh, createNumber, created}
 use Rattle.gsd_format.specs.Listing.{digits, decimal, fields, entryLine, entryLines, countsLine, listing, printed}
 use Rattle.gsd_format.specs.Answers.{openingNumber, openingValues, listedNumber, listedValues, placeNumber, placeValues, elementNumber, bits64, elementValues}
-use Rattle.gsd_stores.specs.Sheet.{bodySize, badTable, bodiesEnd, rowsAt, rowsOf, anyZero, sheetTest}
+use Rattle.gsd_stores.specs.Sheet.{bodySize, badTable, bodiesEnd, rowsAt, rowsOf, formTest, sheetTest}
 use Rattle.gsd_stores.specs.Stores.{after, words, up, down, slotsDown}
 use Rattle.gsd_stores.specs.View.{viewOf, endOfUse}
 use Rattle.gsd_stores.specs.Plan.{bodies, endFrom, newNames, newEntries, inserted, sorted, doubled, planOf}
@@ -25,18 +25,20 @@ use Rattle.gsd_stores.specs.Steps.{clearIndex, clearNames, storeTexts, moved, m
 use Rattle.gsd_stores.specs.Append.{imageTest, planTest, appendTest, storesFor, appendAnswer, appended}
 use Rattle.gsd_stores.specs.Runs.{afterRun, lastStoreMade, completed}
 use Rattle.gsd_worked.specs.Table.{tableRow, sheetA, sheetB, sheetOf, createdIn, madeIn, freshIn, inVersion, stepCounts, shown, table, versions}
-use Rattle.gsd_worked.specs.Table.{entriesFrom, search, probes, framed, sized, gaps, blocks, defaults, passes}
+use Rattle.gsd_worked.specs.Table.{entriesFrom, search, probes, framed, sized, gaps, blocks, defaults, packed, sheetWith, sheetWithout, sheetNamed, alone, inFirst, inLast, undefined, passes}
 
 pub worked : (passes table ≡ true) × (passes versions ≡ true) × (passes probes ≡ true) × (passes gaps ≡ true) × (passes defaults ≡ true)
+    × (passes undefined ≡ true)
 unfolding le leBytes same zeroIn stored ascii _⇒_ _▹_ sizeOf lastType layoutOf partsAt nameParts namesOf flat indexOf entryAt
     entriesAt entriesOf framesFrom headerTest blocksTest twins namesTest entryTest entriesTest verdict countsOf
     opening nthEntry nthName findEntry lookupIn lookup placed chunkPlace bytesAt orDefault createTest freshHeader
     fresh createNumber created digits decimal fields entryLine entryLines countsLine listing printed openingNumber
     openingValues listedNumber listedValues placeNumber placeValues elementNumber bits64 elementValues bodySize
-    badTable bodiesEnd rowsAt rowsOf anyZero sheetTest after words up down slotsDown viewOf chunksEnd endOfUse bodies
+    badTable bodiesEnd rowsAt rowsOf oneOf nanBits top hid ones nanElement anyNan formTest sheetTest after words up down slotsDown viewOf chunksEnd endOfUse bodies
     newNames newEntries inserted sorted doubled planOf clearIndex clearNames storeTexts endFrom moved moveNames
     storeName storeNames moveIndex entryBytes indexBytes storeEntries stepsOf storeList imageTest planTest appendTest
     storesFor appendAnswer appended afterRun lastStoreMade completed tableRow sheetA sheetB createdIn madeIn freshIn
     stepCounts shown sheetOf inVersion elementOf elementIn element halve lastProbe probed searched searchTest
-    unless size span climb entriesFrom search framed sized blocks table versions probes gaps defaults passes
-worked = (refl, refl, refl, refl, refl)
+    unless size span climb entriesFrom search framed sized blocks packed sheetWith sheetWithout sheetNamed alone inFirst inLast
+    table versions probes gaps defaults undefined passes
+worked = (refl, refl, refl, refl, refl, refl)

@@ -6,7 +6,8 @@ use mathlib.Core.Bool.{Bool, true, _&&_}
 use lib.ListN.{getD, length}
 use Rattle.gsd_format.specs.Bytes.{same, leBytes, zeros, stored}
 use Rattle.gsd_format.specs.Ascii.{ascii}
-use Rattle.gsd_format.specs.Header.{version20, versionPlace, slotSize, versionOf, layoutOf}
+use Rattle.gsd_format.specs.Types.{sizeOf}
+use Rattle.gsd_format.specs.Header.{version20, version21, versionPlace, slotSize, versionOf, layoutOf}
 use Rattle.gsd_format.specs.Names.{namesOf}
 use Rattle.gsd_format.specs.Entries.{nPlace, entriesOf}
 use Rattle.gsd_format.specs.Opening.{verdict}
@@ -19,7 +20,7 @@ use Rattle.gsd_format.specs.Create.{createNumber, created}
 use Rattle.gsd_format.specs.Listing.{printed}
 use Rattle.gsd_format.specs.Answers.{listedNumber, elementValues}
 use Rattle.gsd_stores.specs.View.{View, viewOf, endOfUse}
-use Rattle.gsd_stores.specs.Sheet.{rowsOf}
+use Rattle.gsd_stores.specs.Sheet.{rowsOf, sheetTest}
 use Rattle.gsd_stores.specs.Plan.{Plan, planOf}
 use Rattle.gsd_stores.specs.Steps.{clearIndex, clearNames, storeData, moveNames, storeNames, moveIndex, storeEntries, nameBlock, indexBlock}
 use Rattle.gsd_stores.specs.Append.{appendTest, storesFor, appended}
@@ -297,6 +298,88 @@ defaults =
       says = "64 slots, asked for: 3,328";
       got = createdIn 64 0 3327 ∷ createdIn 64 0 3328 ∷ blocks (madeIn 64 0 3328);
       expected = 52 ∷ 0 ∷ 256 ∷ 64 ∷ 2304 ∷ 16 ∷ 0 ∷ 0 ∷ 0 ∷ 0 ∷ [];
+    }
+    ∷ []
+
+-- elements of a type, one behind the other, by their bits
+unfoldable pub packed : ℕ → List ℕ → List ℕ
+packed kind [] = []
+packed kind (bits ∷ rest) = leBytes (sizeOf kind) bits ++ packed kind rest
+
+-- one row of a type, with these elements, M 1
+unfoldable pub sheetWith : ℕ → List ℕ → List ℕ
+sheetWith kind elements = leBytes 4 1 ++ tableRow (length elements) 1 kind (ascii "probe") ++ ascii "probe" ++ packed kind elements
+
+-- one row of floats, N by M, without a byte
+unfoldable pub sheetWithout : ℕ → ℕ → List ℕ
+sheetWithout n m = leBytes 4 1 ++ tableRow n m 9 (ascii "probe") ++ ascii "probe"
+
+-- two rows of these names, the first a NaN, the second u8
+unfoldable pub sheetNamed : List ℕ → List ℕ → List ℕ
+sheetNamed a b = leBytes 4 2 ++ tableRow 1 1 9 a ++ tableRow 1 1 1 b ++ a ++ leBytes 4 0x7fc00000 ++ b ++ 80 ∷ []
+
+-- the number of a sheet with one of these elements: by itself, the first of three, the last of three
+unfoldable pub alone : ℕ → List ℕ → List ℕ
+alone kind patterns = map (λ p. sheetTest version21 (sheetWith kind (p ∷ []))) patterns
+
+unfoldable pub inFirst : ℕ → List ℕ → List ℕ
+inFirst kind patterns = map (λ p. sheetTest version21 (sheetWith kind (p ∷ 0 ∷ 0 ∷ []))) patterns
+
+unfoldable pub inLast : ℕ → List ℕ → List ℕ
+inLast kind patterns = map (λ p. sheetTest version21 (sheetWith kind (0 ∷ 0 ∷ p ∷ []))) patterns
+
+-- floats and doubles that are not numbers, and those next to them that are
+unfoldable pub undefined : List Case
+undefined =
+    let floats : List ℕ = 0x7f800001 ∷ 0x7fc00000 ∷ 0xffc00000 ∷ 0xffffffff ∷ [] in
+    let doubles : List ℕ = 0x7ff0000000000001 ∷ 0x7ff8000000000000 ∷ 0xfff8000000000000 ∷ [] in
+    let a : List ℕ = appended (freshIn 1024) sheetA 23 in
+    let held : List ℕ = stored a 384 (leBytes 4 0x7f800001) in
+    record {
+      says = "a float that is not a number, alone, first and last: 30";
+      got = alone 9 floats ++ inFirst 9 floats ++ inLast 9 floats;
+      expected = 30 ∷ 30 ∷ 30 ∷ 30 ∷ 30 ∷ 30 ∷ 30 ∷ 30 ∷ 30 ∷ 30 ∷ 30 ∷ 30 ∷ [];
+    }
+    ∷ record {
+      says = "a double";
+      got = alone 10 doubles ++ inFirst 10 doubles ++ inLast 10 doubles;
+      expected = 30 ∷ 30 ∷ 30 ∷ 30 ∷ 30 ∷ 30 ∷ 30 ∷ 30 ∷ 30 ∷ [];
+    }
+    ∷ record {
+      says = "infinities, -0.0 and the least number pass";
+      got = alone 9 (0x7f800000 ∷ 0xff800000 ∷ 0x80000000 ∷ 1 ∷ []) ++ alone 10 (0x7ff0000000000000 ∷ 0xfff0000000000000 ∷ 0x8000000000000000 ∷ 1 ∷ []);
+      expected = 0 ∷ 0 ∷ 0 ∷ 0 ∷ 0 ∷ 0 ∷ 0 ∷ 0 ∷ [];
+    }
+    ∷ record {
+      says = "the same bits as u32 and u64, the same bytes as characters";
+      got = alone 3 floats ++ alone 4 doubles ++ sheetTest version21 (sheetWith 11 (0 ∷ 0 ∷ 0xc0 ∷ 0x7f ∷ [])) ∷ [];
+      expected = 0 ∷ 0 ∷ 0 ∷ 0 ∷ 0 ∷ 0 ∷ 0 ∷ 0 ∷ [];
+    }
+    ∷ record {
+      says = "a NaN's bytes across two floats, and a float NaN's in a double";
+      got = sheetTest version21 (sheetWith 9 (0x80000100 ∷ 0x7f ∷ [])) ∷ alone 10 (0x7fc000007fc00000 ∷ 0x000000007fc00000 ∷ []);
+      expected = 0 ∷ 0 ∷ 0 ∷ [];
+    }
+    ∷ record {
+      says = "N or M 0: no element";
+      got = map (sheetTest version21) (sheetWithout 0 1 ∷ sheetWithout 1 0 ∷ sheetWithout 18446744073709551615 0 ∷ []);
+      expected = 0 ∷ 0 ∷ 0 ∷ [];
+    }
+    ∷ record {
+      says = "26 and 27 go before, 28 and 29 behind";
+      got = map (sheetTest version21) (sheetNamed (0 ∷ []) (ascii "b") ∷ sheetNamed (ascii "b") (ascii "b") ∷ sheetNamed (ascii "a") (ascii "b") ∷ [])
+          ++ appendTest (freshIn 384) (sheetWith 9 (0 ∷ [])) ∷ appendTest (freshIn 384) (sheetWith 9 (0x7fc00000 ∷ [])) ∷ [];
+      expected = 26 ∷ 27 ∷ 30 ∷ 29 ∷ 30 ∷ [];
+    }
+    ∷ record {
+      says = "no store";
+      got = length (storesFor a (sheetWith 9 (0x7fc00000 ∷ []))) ∷ [];
+      expected = 0 ∷ [];
+    }
+    ∷ record {
+      says = "an image that holds one is read as before, and grows";
+      got = shown held ++ elementValues (element held 0 (ascii "probe") 0) ++ appendTest held sheetB ∷ [];
+      expected = 0 ∷ 1 ∷ 1 ∷ 1 ∷ 3 ∷ 0x7f800001 ∷ 0 ∷ [];
     }
     ∷ []
 

@@ -1,19 +1,24 @@
-//! A regulator's night in an image: make it, append frames, survive a stop, and read the heater's
-//! duty of the last frame.
+//! A regulator's night in an image: make it, append frames, survive a stop and a failing probe, and
+//! read the heater's duty of the last frame.
 
 use dialmoth::{Element, Refusal, Row, Type};
 use std::error::Error;
 
-/// A frame: three readings and, where the heater answered, its duty in per cent.
+/// A frame: where the probe answered, three readings, and where the heater did, its duty in per cent.
+#[derive(Clone, Copy)]
 struct Frame {
-    probe: [f32; 3],
+    probe: Option<[f32; 3]>,
     duty: Option<u8>,
 }
 
 impl Frame {
     fn sheet(&self) -> Vec<u8> {
-        let probe: Vec<u8> = self.probe.iter().flat_map(|reading| reading.to_le_bytes()).collect();
-        let mut rows = vec![Row { name: b"probe", kind: Type::Float, n: 3, m: 1, data: &probe }];
+        let readings = self.probe.map(|probe| probe.map(f32::to_le_bytes));
+        let mut rows = vec![];
+        if let Some(readings) = &readings {
+            let data = readings.as_flattened();
+            rows.push(Row { name: b"probe", kind: Type::Float, n: 3, m: 1, data });
+        }
         if let Some(duty) = &self.duty {
             let data = std::slice::from_ref(duty);
             rows.push(Row { name: b"heater", kind: Type::U8, n: 1, m: 1, data });
@@ -43,11 +48,24 @@ fn print_last_duty(image: &[u8]) -> Result<(), Box<dyn Error>> {
     Ok(())
 }
 
-/// Makes at most `limit` stores of a frame's append, and says whether the frame is there.
-fn append(image: &mut [u8], frame: &Frame, limit: u64) -> Result<bool, Refusal> {
-    let stores = dialmoth::append(image, &frame.sheet(), limit)?;
-    println!("append: {} of {} stores", stores.done, stores.whole);
-    Ok(stores.is_whole())
+/// Makes at most `limit` stores of a frame's append, and says whether the frame is there; a frame of
+/// nothing is none. Readings that hold a NaN are refused and left out: the frame then has no chunk of
+/// them.
+fn append(image: &mut [u8], frame: Frame, limit: u64) -> Result<bool, Refusal> {
+    if frame.probe.is_none() && frame.duty.is_none() {
+        return Ok(false);
+    }
+    match dialmoth::append(image, &frame.sheet(), limit) {
+        Err(Refusal::NAN_IN_SHEET) => {
+            println!("append: a reading is a NaN");
+            append(image, Frame { probe: None, ..frame }, limit)
+        }
+        Err(refusal) => Err(refusal),
+        Ok(stores) => {
+            println!("append: {} of {} stores", stores.done, stores.whole);
+            Ok(stores.is_whole())
+        }
+    }
 }
 
 fn main() -> Result<(), Box<dyn Error>> {
@@ -56,20 +74,25 @@ fn main() -> Result<(), Box<dyn Error>> {
     dialmoth::create(&mut image, b"regulator", b"night", 0x0001_0000, 8, 1)?;
     print_last_duty(&image)?;
 
-    let evening = [21.5, 22.25, 19.0];
-    append(&mut image, &Frame { probe: evening, duty: Some(40) }, u64::MAX)?;
+    let evening = Some([21.5, 22.25, 19.0]);
+    append(&mut image, Frame { probe: evening, duty: Some(40) }, u64::MAX)?;
     print_last_duty(&image)?;
 
     // The heater does not answer: the frame has no chunk of it.
-    append(&mut image, &Frame { probe: evening, duty: None }, u64::MAX)?;
+    append(&mut image, Frame { probe: evening, duty: None }, u64::MAX)?;
     print_last_duty(&image)?;
 
     // An append is stopped after ten stores: the last frame reads as before.
-    let night = Frame { probe: [18.5, 18.75, 17.5], duty: Some(55) };
-    assert!(!append(&mut image, &night, 10)?);
+    let night = Frame { probe: Some([18.5, 18.75, 17.5]), duty: Some(55) };
+    assert!(!append(&mut image, night, 10)?);
     print_last_duty(&image)?;
 
     // The same append is made again, and now to its end.
-    assert!(append(&mut image, &night, u64::MAX)?);
+    assert!(append(&mut image, night, u64::MAX)?);
+    print_last_duty(&image)?;
+
+    // The probe card fails: the frame has no chunk of it, and the heater's all the same.
+    let failing = Frame { probe: Some([18.5, f32::NAN, 17.5]), duty: Some(40) };
+    assert!(append(&mut image, failing, u64::MAX)?);
     print_last_duty(&image)
 }

@@ -29,10 +29,14 @@ pub trait Ask: Library {
         answer(|out| self.entry(image, n, out))
     }
 
+    fn all_entries(&self, image: &[u8]) -> Answer<Vec<[u64; 7]>> {
+        let [_, _, entries] = self.counts(image)?;
+        (0..entries).map(|n| self.nth_entry(image, n)).collect()
+    }
+
     /// The frame of each entry.
     fn named_frames(&self, image: &[u8]) -> Answer<Vec<u64>> {
-        let [_, _, entries] = self.counts(image)?;
-        (0..entries).map(|n| Ok(self.nth_entry(image, n)?[0])).collect()
+        Ok(self.all_entries(image)?.iter().map(|entry| entry[0]).collect())
     }
 
     fn find(&self, image: &[u8], frame: u64, name: &[u8]) -> Answer<[u64; 7]> {

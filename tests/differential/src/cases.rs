@@ -68,7 +68,8 @@ pub fn all() -> Vec<(String, Test)> {
 /// All stores.
 const ALL: u64 = u64::MAX;
 
-const PROBE: [u8; 12] = [0, 0, 0x80, 0x3F, 0, 0, 0x20, 0xC0, 1, 0, 0x80, 0x7F];
+/// The last one is infinity, next to the NaNs.
+const PROBE: [u8; 12] = [0, 0, 0x80, 0x3F, 0, 0, 0x20, 0xC0, 0, 0, 0x80, 0x7F];
 
 pub fn sheet_a() -> Vec<u8> {
     sheet(&[Row::new(b"probe", 9, 3, 1, &PROBE)])
@@ -114,6 +115,105 @@ fn many_names(l: &Versioned, count: usize) -> Vec<u8> {
     let names: Vec<_> = (0..count).map(numbered).collect();
     put_names(&mut image, 320, names.iter().map(Vec::as_slice));
     image
+}
+
+/// NaNs by their type: signalling, quiet, of either sign, one bit alone, all ones.
+const NANS: [(u8, [u64; 8]); 2] = [
+    (
+        9,
+        [
+            0x7F80_0001,
+            0x7FC0_0000,
+            0xFFC0_0000,
+            0xFFFF_FFFF,
+            0xFF80_0001,
+            0x7FBF_FFFF,
+            0x7F80_8000,
+            0x7FFF_FFFF,
+        ],
+    ),
+    (
+        10,
+        [
+            0x7FF0_0000_0000_0001,
+            0x7FF8_0000_0000_0000,
+            0xFFF8_0000_0000_0000,
+            0xFFFF_FFFF_FFFF_FFFF,
+            0xFFF0_0000_0000_0001,
+            0x7FF0_0000_8000_0000,
+            0x7FF0_0001_0000_0000,
+            0x7FFF_FFFF_FFFF_FFFF,
+        ],
+    ),
+];
+
+/// Numbers by their type: infinities, zeros, the least above 0, the greatest of either sign, and those
+/// whose bytes in another order, or in halves, are a NaN's.
+const NUMBERS: [(u8, [u64; 8]); 2] = [
+    (
+        9,
+        [
+            0x7F80_0000,
+            0xFF80_0000,
+            0x8000_0000,
+            0x0000_0001,
+            0x0000_0000,
+            0x7F7F_FFFF,
+            0xFF7F_FFFF,
+            0x0100_807F,
+        ],
+    ),
+    (
+        10,
+        [
+            0x7FF0_0000_0000_0000,
+            0xFFF0_0000_0000_0000,
+            0x8000_0000_0000_0000,
+            0x0000_0000_0000_0001,
+            0x7FEF_FFFF_FFFF_FFFF,
+            0xFFEF_FFFF_FFFF_FFFF,
+            0x0100_0000_0000_F07F,
+            0x3FF0_0000_7FC0_0000,
+        ],
+    ),
+];
+
+/// A column of floats or doubles with these bits.
+fn floats(name: &[u8], kind: u8, bits: &[u64]) -> Row {
+    let width = images::size(kind);
+    let data: Vec<u8> =
+        bits.iter().flat_map(|bits| bits.to_le_bytes().into_iter().take(width)).collect();
+    Row::new(name, kind, bits.len() as u64, 1, &data)
+}
+
+/// A row that holds a NaN.
+fn nan(name: &[u8]) -> Row {
+    floats(name, 9, &[0x7FC0_0000])
+}
+
+/// At every limit the append is refused with this number, and changes no byte.
+fn refused(l: &Versioned, image: &[u8], sheet: &[u8], number: u64) {
+    for limit in [0, 1, ALL] {
+        let (mut after, mut out) = (image.to_vec(), [0x5555; 2]);
+        assert_eq!((l.append(&mut after, sheet, limit, &mut out), out), (number, [0, 0]));
+        assert!(after == image, "a refusal changes nothing");
+    }
+}
+
+/// The append is accepted: no store with limit 0, one with 1, and all of them show the rows' data.
+fn accepted(l: &Versioned, image: &[u8], rows: &[Row]) -> Vec<u8> {
+    let sheet = sheet(rows);
+    let (same, stores) = l.after(image, &sheet, 0);
+    let whole = stores.unwrap()[1];
+    assert!(stores == Ok([0, whole]) && same == image);
+    assert_eq!(l.after(image, &sheet, 1).1, Ok([1, whole]));
+    let (after, stores) = l.after(image, &sheet, whole);
+    assert_eq!(stores, Ok([whole, whole]));
+    let frame = l.counts(&after).unwrap()[0] - 1;
+    for row in rows {
+        assert_eq!(l.bytes(&after, frame, &row.name), Ok(&row.data[..]));
+    }
+    after
 }
 
 /// Frame and id.
@@ -268,8 +368,7 @@ const CASES: &[Case] = &[
         let (image, _) = l.after(&fresh(l), &sheet_a(), ALL);
         assert_eq!(l.nth_element(&image, 0, b"probe", 0), Ok([3, 0x3F80_0000]));
         assert_eq!(l.nth_element(&image, 0, b"probe", 1), Ok([3, 0xC020_0000]));
-        // A signalling NaN keeps its bits.
-        assert_eq!(l.nth_element(&image, 0, b"probe", 2), Ok([3, 0x7F80_0001]));
+        assert_eq!(l.nth_element(&image, 0, b"probe", 2), Ok([3, 0x7F80_0000]));
         assert_eq!(l.nth_element(&image, 0, b"probe", 3), Err(43));
     }),
     ("worked: 1,024 names", |l| {
@@ -425,11 +524,16 @@ const CASES: &[Case] = &[
         let data: Vec<u8> = (0xF0..=0xFF).collect();
         let rows: Vec<_> = (1..=10)
             .map(|kind| {
-                let n = (data.len() / crate::images::size(kind)) as u64 / 2;
-                Row::new(&[b'0' + kind], kind, n, 2, &data)
+                let n = (data.len() / images::size(kind)) as u64 / 2;
+                // The last float and the last double are NaNs: these types are put in afterwards.
+                let appended = if kind > 8 { kind - 6 } else { kind };
+                Row::new(&[b'0' + kind], appended, n, 2, &data)
             })
             .collect();
-        let (image, _) = l.after(&image, &sheet(&rows), ALL);
+        let (mut image, _) = l.after(&image, &sheet(&rows), ALL);
+        for slot in [8, 9] {
+            image[256 + 32 * slot + 30] = slot as u8 + 1;
+        }
         let second = |kind: u8| l.nth_element(&image, 0, &[b'0' + kind], 1).unwrap();
         assert_eq!(second(1), [1, 0xF1]);
         assert_eq!(second(2), [1, 0xF3F2]);
@@ -1105,6 +1209,201 @@ const CASES: &[Case] = &[
         let twice = Row::bytes(b"a", b"");
         assert_eq!(number(&sheet(&[twice.clone(), twice, Row::bytes(b"b\0", b"")])), 26);
     }),
+    ("30: a NaN as the only, first, last or any element", |l| {
+        let image = fresh(l);
+        for ((kind, nans), (_, numbers)) in NANS.into_iter().zip(NUMBERS) {
+            for nan in nans {
+                refused(l, &image, &sheet(&[floats(b"a", kind, &[nan])]), 30);
+                for at in 0..6 {
+                    let mut bits = numbers;
+                    bits[at] = nan;
+                    // At every place in a word.
+                    for length in 1..=8 {
+                        let row = floats(&[b'n'; 8][..length], kind, &bits[..6]);
+                        refused(l, &image, &sheet(std::slice::from_ref(&row)), 30);
+                        for (n, m) in [(3, 2), (2, 3), (1, 6)] {
+                            refused(l, &image, &sheet(&[Row { n, m, ..row.clone() }]), 30);
+                        }
+                    }
+                }
+            }
+        }
+    }),
+    ("30: infinities, zeros and all other numbers pass", |l| {
+        let image = fresh(l);
+        for (kind, numbers) in NUMBERS {
+            let answered = if kind == 9 { 3 } else { 4 };
+            for length in 1..=8 {
+                let name = &[b'n'; 8][..length];
+                let row = floats(name, kind, &numbers);
+                accepted(l, &image, &[Row { n: 2, m: 4, ..row.clone() }]);
+                let after = accepted(l, &image, &[row]);
+                for (k, bits) in numbers.into_iter().enumerate() {
+                    let element = l.nth_element(&after, 0, name, k as u64);
+                    assert_eq!(element, Ok([answered, bits]));
+                }
+            }
+            for number in numbers {
+                accepted(l, &image, &[floats(b"a", kind, &[number])]);
+            }
+        }
+    }),
+    ("30: the bytes of NaNs pass in other types", |l| {
+        let image = fresh(l);
+        for (kind, nans) in NANS {
+            let Row { data, .. } = floats(b"a", kind, &nans);
+            for other in 1..=8 {
+                let n = (data.len() / images::size(other)) as u64;
+                accepted(l, &image, &[Row::new(b"a", other, n, 1, &data)]);
+                accepted(l, &image, &[Row::new(b"a", other, n / 2, 2, &data)]);
+            }
+        }
+    }),
+    ("30: without an element there is no NaN", |l| {
+        // Behind the empty row lie names and data that would be NaNs there.
+        let next = Row::bytes(&[0xFF; 8], &[0xFF; 8]);
+        for kind in [9, 10] {
+            for (n, m) in [(0, 1), (0, 0), (ALL, 0), (1, 0), (0, u32::MAX)] {
+                let empty = Row::new(b"a", kind, n, m, b"");
+                let after = accepted(l, &fresh(l), &[empty.clone(), next.clone()]);
+                assert_eq!(l.find(&after, 0, b"a").map(|e| [e[1], e[3]]), Ok([n, m.into()]));
+                accepted(l, &fresh(l), &[next.clone(), empty.clone()]);
+                refused(l, &fresh(l), &sheet(&[empty, nan(b"b")]), 30);
+            }
+        }
+    }),
+    ("30: bits of a NaN that are no element pass", |l| {
+        // Across two elements.
+        for (kind, nans) in NANS {
+            let width = images::size(kind);
+            for (nan, at) in nans[..2].iter().flat_map(|nan| (1..width).map(move |at| (nan, at))) {
+                let mut data = vec![0; 2 * width];
+                data[at..at + width].copy_from_slice(&nan.to_le_bytes()[..width]);
+                accepted(l, &fresh(l), &[Row::new(b"a", kind, 2, 1, &data)]);
+            }
+        }
+        // Across the name and the first element; the last element and the next name.
+        let rows = [
+            floats(b"a\xFF", 9, &[0x007F_8000, 0xFF7F_0000]),
+            floats(b"\x7F\xFF", 10, &[0x007F_F000_0000_0000, 0xF07F_0000_0000_0000]),
+            Row::bytes(b"\x7F\xFF\xFF\xFF", &[0xFF; 8]),
+        ];
+        accepted(l, &fresh(l), &rows);
+    }),
+    ("30: each row is tested", |l| {
+        let image = l.fresh(16_384, 64, 16).unwrap();
+        let row = |n: u8| match n % 4 {
+            0 => floats(&[n + 1], 9, &NUMBERS[0].1),
+            1 => Row::bytes(&[n + 1], &[0xFF; 9]),
+            2 => floats(&[n + 1], 10, &NUMBERS[1].1),
+            _ => Row::new(&[n + 1], 9, 0, 1, b""),
+        };
+        let rows: Vec<_> = (0..64).map(row).collect();
+        accepted(l, &image, &rows);
+        for at in 0..64 {
+            for (kind, nans) in NANS {
+                let mut rows = rows.clone();
+                rows[at] = floats(&[at as u8 + 1], kind, &nans[..1]);
+                refused(l, &image, &sheet(&rows), 30);
+                refused(l, &image, &sheet(&rows[..at + 1]), 30);
+                refused(l, &image, &sheet(&rows[at..]), 30);
+            }
+        }
+    }),
+    ("30 goes after 21, 31 and 22 to 27", |l| {
+        let good = sheet(&[nan(b"a")]);
+        refused(l, &fresh(l), &good, 30);
+        let mut damaged = fresh(l);
+        damaged[0] = 0;
+        let late = entries(l, 1024, &[Slot::bytes(GREATEST_FRAME + 1, 0, 384, 4)]);
+        let full = entries(l, 1024, &[Slot::bytes(GREATEST_FRAME, 0, 384, 4)]);
+        let odd = l.blank(1024, 260, 1, 320, 1);
+        for (image, number) in [(damaged, 3), (late, 18), (odd, 21), (full, 31)] {
+            refused(l, &image, &good, number);
+        }
+        let many: Vec<_> = (1..=65).map(|n| nan(&[n])).collect();
+        for (sheet, number) in [
+            (sheet(&many), 22),
+            (sheet(&many[..64]), 30),
+            (sheet(&many[..64])[..1027].to_vec(), 23),
+            (sheet(&[nan(b"a"), Row::new(b"b", 12, 0, 1, b"")]), 24),
+            (sheet(&[nan(b"a"), Row::bytes(b"", b"")]), 24),
+            ([&good[..], &[0]].concat(), 25),
+            (good[..good.len() - 1].to_vec(), 25),
+            (sheet(&[nan(b"a"), Row::bytes(b"b\0", b"")]), 26),
+            (sheet(&[nan(b"\0")]), 26),
+            (sheet(&[nan(b"a"), nan(b"a")]), 27),
+            (sheet(&[Row::bytes(b"a", b""), nan(b"b"), Row::bytes(b"a", b"")]), 27),
+        ] {
+            refused(l, &fresh(l), &sheet, number);
+        }
+    }),
+    ("30 goes before 28 and 29", |l| {
+        let image = fresh(l);
+        for length in [384, 391, 399] {
+            refused(l, &image[..length], &sheet_a(), 29);
+            refused(l, &image[..length], &sheet(&[nan(b"probe")]), 30);
+        }
+        let row = Row::bytes(b"a", &[7; 640]);
+        refused(l, &image, &sheet(&[row.clone(), floats(b"b", 9, &[0])]), 29);
+        refused(l, &image, &sheet(&[row, nan(b"b")]), 30);
+        let mut names = many_names(l, 1024);
+        for more in [0, 65_536] {
+            names.resize(names.len() + more, 0);
+            refused(l, &names, &sheet(&[floats(b"new", 9, &[0])]), 28);
+            refused(l, &names, &sheet(&[nan(b"new")]), 30);
+            refused(l, &names, &sheet(&[nan(&numbered(0)), Row::bytes(b"new", b"")]), 30);
+        }
+        accepted(l, &names, &[floats(&numbered(0), 9, &[0])]);
+    }),
+    ("images that hold NaNs read as before", |l| {
+        for (kind, nans) in NANS {
+            let row = floats(b"a", kind, &nans);
+            let slot = Slot { kind, ..Slot::bytes(0, 0, 384, 8) };
+            let mut image = entries(l, 1024, &[slot]);
+            image[384..][..row.data.len()].copy_from_slice(&row.data);
+            assert_eq!(
+                l.listing(&image),
+                format!("frames 1 names 1 entries 1\n0 0 {kind} 8 1 384\n")
+            );
+            assert_eq!(l.nth_entry(&image, 0), Ok(slot.fields()));
+            assert_eq!(l.find(&image, 0, b"a"), Ok(slot.fields()));
+            assert_eq!(l.probed(&image, 0, b"a"), (0, 2));
+            assert_eq!(l.bytes(&image, 0, b"a"), Ok(&row.data[..]));
+            let answered = if kind == 9 { 3 } else { 4 };
+            for (k, bits) in nans.into_iter().enumerate() {
+                assert_eq!(l.nth_element(&image, 0, b"a", k as u64), Ok([answered, bits]));
+            }
+            assert_eq!(l.nth_element(&image, 0, b"a", 8), Err(43));
+            // They take a sheet without NaNs, and keep their own at every moment.
+            let after = accepted(l, &image, &[floats(b"a", 9, &[0x7F80_0000])]);
+            assert_eq!(l.bytes(&after, 0, b"a"), Ok(&row.data[..]));
+            let calls = [20, ALL, ALL].map(|limit| Call::new(l.version, sheet_b(), limit));
+            assert!(Run::make(l.library, &image, &calls).is_ok_and(|moments| moments > 20));
+            // The same chunk is refused, and passes as whole numbers.
+            refused(l, &image, &sheet(std::slice::from_ref(&row)), 30);
+            accepted(l, &image, &[Row { kind: kind - 6, ..row }]);
+        }
+    }),
+    ("a run of appends with NaNs among its calls", |l| {
+        let both = [nan(b"probe"), floats(b"heater", 10, &[0x7FF0_0000_0000_0001])];
+        let mut image = fresh(l);
+        let mut calls = Vec::new();
+        // A stopped after 22 stores takes 22 then.
+        for (good, limit, stores) in
+            [(sheet_a(), 22, [22, 23]), (sheet_a(), ALL, [22, 22]), (sheet_b(), ALL, [43, 43])]
+        {
+            for (rows, limit) in [(&both[..1], ALL), (&both[..], 0), (&both[1..], 7)] {
+                refused(l, &image, &sheet(rows), 30);
+                calls.push(Call::new(l.version, sheet(rows), limit));
+            }
+            let (after, done) = l.after(&image, &good, limit);
+            assert_eq!(done, Ok(stores));
+            calls.push(Call::new(l.version, good, limit));
+            image = after;
+        }
+        assert_eq!(Run::make(l.library, &fresh(l), &calls), Ok(1 + 22 + 22 + 43));
+    }),
     ("rows arrive in any order", |l| {
         let (image, _) = l.after(&fresh(l), &nothing(b"m"), ALL);
         let rows = [Row::bytes(b"z", b"zz"), Row::bytes(b"m", b"mmm"), Row::bytes(b"a", b"a")];
@@ -1322,6 +1621,19 @@ const BETWEEN: &[Between] = &[
         // As u8 the same, in 2.0 too.
         let (image, _) = old.after(&fresh(old), &sheet(&[Row { kind: 1, ..row }]), ALL);
         assert_eq!(old.nth_element(&image, 0, b"a", 0), Ok([1, 255]));
+    }),
+    ("30: characters are not looked at", |old, new| {
+        for (kind, nans) in NANS {
+            let row = floats(b"a", kind, &nans);
+            let text = Row { kind: 11, n: row.data.len() as u64, ..row.clone() };
+            refused(old, &fresh(old), &sheet(std::slice::from_ref(&text)), 24);
+            accepted(new, &fresh(new), std::slice::from_ref(&text));
+            accepted(new, &fresh(new), &[Row { n: text.n / 4, m: 4, ..text.clone() }]);
+            // 24 goes before 30.
+            let both = sheet(&[row, Row { name: b"b".to_vec(), ..text }]);
+            refused(old, &fresh(old), &both, 24);
+            refused(new, &fresh(new), &both, 30);
+        }
     }),
     ("a chunk of no character", |old, new| {
         for (n, m) in [(0, 1), (0, 0), (ALL, 0), (0, u32::MAX)] {

@@ -41,6 +41,8 @@ pub struct Check<'l> {
     flush: Flush,
     pub comparisons: u64,
     pub failures: u64,
+    /// Appends that the plain implementation accepts.
+    pub accepted: u64,
     /// How often each number was the answer, 0 for none.
     pub met: BTreeMap<u64, u64>,
     /// Moments of runs of appends looked at.
@@ -61,6 +63,7 @@ impl<'l> Check<'l> {
             flush: Flush::End,
             comparisons: 0,
             failures: 0,
+            accepted: 0,
             met: BTreeMap::new(),
             moments: 0,
             show: true,
@@ -230,6 +233,7 @@ impl<'l> Check<'l> {
         let expected = Reference.append(&mut self.ours, sheet, limit, &mut ours.numbers);
         let call = || format!("append limit {limit} sheet {}", hex(sheet));
         let answer = self.judge((number, theirs), (expected, ours), call);
+        self.accepted += u64::from(answer.is_some());
         self.judge_bytes(call);
         answer
     }

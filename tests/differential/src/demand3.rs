@@ -2,12 +2,12 @@
 
 use crate::ask::Ask;
 use crate::check::hex;
-use crate::images::{frames_to_ask, lawful_rows, Row, GREATEST_FRAME};
+use crate::images::{frames_to_ask, holds_nan, lawful_rows, size, Row, GREATEST_FRAME};
 use crate::library::Library;
 use std::collections::BTreeMap;
 
-/// A call of a run: any bytes as a sheet, with the rows of one that is lawful for the run's image,
-/// and a limit.
+/// A call of a run: any bytes as a sheet, with the rows of one that is lawful for the run's image
+/// but for NaNs, and a limit.
 pub struct Call {
     sheet: Vec<u8>,
     rows: Option<Vec<Row>>,
@@ -18,6 +18,21 @@ impl Call {
     /// No append changes the version, so that of the run's start is that of every call.
     pub fn new(version: u32, sheet: Vec<u8>, limit: u64) -> Call {
         Call { rows: lawful_rows(&sheet, version), sheet, limit }
+    }
+
+    fn holds_nan(&self) -> bool {
+        self.rows.iter().flatten().any(Row::holds_nan)
+    }
+
+    /// What can refuse it in an image that opens: that no frame is left, the sheet, or that the
+    /// image is no place for it.
+    fn refusals(&self, full: bool) -> &'static [u64] {
+        match self.rows {
+            _ if full => &[21, 31],
+            None => &[21, 22, 23, 24, 25, 26, 27],
+            Some(_) if self.holds_nan() => &[21, 30],
+            Some(_) => &[21, 28, 29],
+        }
     }
 }
 
@@ -35,6 +50,8 @@ pub struct Run<'l> {
     count: u64,
     /// The frames that are looked at, those of the run among them. No entry may name another.
     frames: BTreeMap<u64, Frame>,
+    /// Whether the start has no NaN: then no moment has one.
+    free_of_nans: bool,
     pub moments: u64,
 }
 
@@ -51,8 +68,11 @@ impl<'l> Run<'l> {
         all.sort();
         all.dedup();
 
-        let mut run = Run { library, names: all, count, frames: BTreeMap::new(), moments: 1 };
-        for frame in frames_to_ask(&run.named(start)?, count) {
+        let frames = BTreeMap::new();
+        let mut run = Run { library, names: all, count, frames, free_of_nans: false, moments: 1 };
+        let entries = run.entries(start)?;
+        run.free_of_nans = !entries.iter().any(|entry| chunk_holds_nan(start, entry));
+        for frame in frames_to_ask(&frames_of(&entries), count) {
             let found = run.look(start, frame)?;
             run.frames.insert(frame, found);
         }
@@ -73,12 +93,14 @@ impl<'l> Run<'l> {
     fn call(&mut self, image: &mut Vec<u8>, call: &Call) -> Result<(), String> {
         let before = image.clone();
         let stores = self.library.put(image, &call.sheet, call.limit);
-        let (lawful, full) = (call.rows.is_some(), self.count > GREATEST_FRAME);
+        self.entries(image)?;
+        let (full, holds_nan) = (self.count > GREATEST_FRAME, call.holds_nan());
+        let refusals = call.refusals(full);
         let ([done, whole], rows) = match (stores, &call.rows) {
-            (Ok(stores), Some(rows)) if !full => (stores, rows),
+            (Ok(stores), Some(rows)) if !full && !holds_nan => (stores, rows),
             (Err(_), _) if *image != before => return Err("a refusal wrote".into()),
-            (Err(number), _) if refusals(lawful, full).contains(&number) => return Ok(()),
-            _ => return Err(format!("{stores:?}; a lawful sheet: {lawful}; full: {full}")),
+            (Err(number), _) if refusals.contains(&number) => return Ok(()),
+            _ => return Err(format!("{stores:?}; if refused, one of {refusals:?}")),
         };
         if done != whole.min(call.limit) {
             return Err(format!("done {done} of {whole}"));
@@ -115,7 +137,7 @@ impl<'l> Run<'l> {
         if frames != self.count {
             return Err(format!("{frames} frames, expected {}", self.count));
         }
-        let named = self.named(image)?;
+        let named = frames_of(&self.entries(image)?);
         if let Some(other) = named.iter().find(|frame| !self.frames.contains_key(frame)) {
             return Err(format!("an entry names frame {other}, which was empty"));
         }
@@ -135,8 +157,14 @@ impl<'l> Run<'l> {
         Ok(())
     }
 
-    fn named(&self, image: &[u8]) -> Result<Vec<u64>, String> {
-        self.library.named_frames(image).map_err(|number| format!("an entry refused with {number}"))
+    /// All entries, none with a NaN where the start has none.
+    fn entries(&self, image: &[u8]) -> Result<Vec<[u64; 7]>, String> {
+        let entries = self.library.all_entries(image);
+        let entries = entries.map_err(|number| format!("an entry refused with {number}"))?;
+        match entries.iter().find(|entry| chunk_holds_nan(image, entry)) {
+            Some(entry) if self.free_of_nans => Err(format!("a NaN in the record: {entry:?}")),
+            _ => Ok(entries),
+        }
     }
 
     /// What each name finds in a frame that is there.
@@ -176,14 +204,16 @@ impl<'l> Run<'l> {
     }
 }
 
-/// Of an image that opens: what refuses is that no frame is left, the sheet, or that the image is
-/// no place for it.
-fn refusals(lawful: bool, full: bool) -> &'static [u64] {
-    match lawful {
-        _ if full => &[21, 31],
-        true => &[21, 28, 29],
-        false => &[21, 22, 23, 24, 25, 26, 27],
-    }
+fn frames_of(entries: &[[u64; 7]]) -> Vec<u64> {
+    entries.iter().map(|entry| entry[0]).collect()
+}
+
+/// Whether the chunk of a listed entry holds a NaN.
+fn chunk_holds_nan(image: &[u8], &[_, n, location, m, _, kind, _]: &[u64; 7]) -> bool {
+    let kind = kind as u8;
+    let length = n.saturating_mul(m).saturating_mul(size(kind) as u64);
+    let chunk = image.get(location as usize..).and_then(|from| from.get(..length as usize));
+    chunk.is_some_and(|data| holds_nan(kind, data))
 }
 
 /// A store changes nothing but one word on a multiple of 8, and of the header one of those that say

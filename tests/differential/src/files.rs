@@ -1,7 +1,8 @@
 //! Files that the real GSD library wrote, with its own reading of them (tests/files/README.md).
 
 use crate::ask::Ask;
-use crate::images::{frames_to_ask, get64, sheet, Row};
+use crate::generate;
+use crate::images::{frames_to_ask, get64, sheet, Row, FLOATS};
 use crate::library::Library;
 use std::path::{Path, PathBuf};
 use std::{fs, io};
@@ -115,6 +116,9 @@ pub fn hold(library: &dyn Library, files: &Files, name: &str) {
         assert_eq!(library.nth_element(&image, frame, &chunk, n * m), Err(43));
     }
     grow(library, &image);
+    let refused = append_again(library, &image);
+    // The file of extreme values has NaNs of both types.
+    assert!(refused == 2 || !name.ends_with("extremes"), "{name}: {refused}");
 }
 
 /// As a file of the other version it lists the same, but for characters, which 2.0 does not know.
@@ -128,6 +132,25 @@ fn other_version(library: &dyn Library, file: &[u8], listing: &str, characters: 
         image[44] = 2;
         assert_eq!(library.listing(&image), "refused 4\n");
     }
+}
+
+/// Appends each chunk of floats or doubles again: exactly those with a NaN are refused, and counted.
+fn append_again(library: &dyn Library, file: &[u8]) -> usize {
+    let mut image = file.to_vec();
+    image.resize(file.len().next_multiple_of(8) + 65_536, 0);
+    let rows = generate::chunk_rows(file).into_iter();
+    let floats = rows.filter(|row| FLOATS.contains(&row.kind) && row.data.len() < 4096);
+    let mut refused = 0;
+    for row in floats {
+        // Some names are too long for a sheet.
+        let row = Row { name: b"again".to_vec(), ..row };
+        let number = library.after(&image, &sheet(std::slice::from_ref(&row)), 0).1.err();
+        if number != Some(21) {
+            assert_eq!(number, row.holds_nan().then_some(30));
+            refused += usize::from(row.holds_nan());
+        }
+    }
+    refused
 }
 
 /// The file grows as an image: it stays of its version, and each old chunk reads the same after an

@@ -1,8 +1,8 @@
 //! Random images and sheets: lawful, odd and damaged.
 
 use crate::images::{
-    blank, get64, last_type, put32, put64, put_names, put_slots, sheet, size, version, Row, Slot,
-    GREATEST_FRAME, V2_1, VERSIONS,
+    blank, get64, is_nan, last_type, put32, put64, put_names, put_slots, sheet, size, version, Row,
+    Slot, FLOATS, GREATEST_FRAME, V2_1, VERSIONS,
 };
 use crate::library::{Create, Library, Reference};
 use crate::random::Rng;
@@ -151,15 +151,117 @@ fn shape(rng: &mut Rng, version: u32, room: usize) -> (u64, u32, u8) {
     }
 }
 
+/// A row of random data without NaNs.
 pub fn row(rng: &mut Rng, version: u32, name: Vec<u8>) -> Row {
     let room = rng.pick(&[9, 17, 40, 100]);
     let (n, m, kind) = shape(rng, version, room);
     let data = rng.bytes((n.wrapping_mul(m.into()) as usize).wrapping_mul(size(kind)));
-    Row { name, kind, n, m, data }
+    let mut row = Row { name, kind, n, m, data };
+    make_numbers(&mut row);
+    row
 }
 
-/// Rows with different names, some of them of `known`, in any order. Their types are those of the
-/// version, but for a character now and then that it may not know.
+/// Makes numbers of a row's NaNs, by the highest bit of their exponent.
+fn make_numbers(row: &mut Row) {
+    if FLOATS.contains(&row.kind) {
+        let nans = row.data.chunks_exact_mut(size(row.kind)).filter(|element| is_nan(element));
+        nans.for_each(|element| *element.last_mut().unwrap() ^= 0x40);
+    }
+}
+
+/// A float's or a double's bits about the borders between numbers, infinities and NaNs.
+fn border_bits(rng: &mut Rng, size: usize) -> u64 {
+    let (sign, fraction) = if size == 4 { (1 << 31, 23) } else { (1 << 63, 52) };
+    let infinity = (sign - 1) >> fraction << fraction;
+    let quiet = 1 << (fraction - 1);
+    let any = rng.number() % (1 << fraction);
+    let bits = match rng.below(10) {
+        0 => infinity - 1,
+        1 => infinity,
+        2 => infinity + 1,
+        3 => infinity + quiet - 1,
+        4 => infinity + quiet + rng.below(2) as u64,
+        5 => sign - 1,
+        // One bit of the fraction: of a double's low half too.
+        6 => infinity + (1 << rng.below(fraction)),
+        7 => infinity + any,
+        // A bit of the exponent is missing.
+        8 => infinity - (1 << (fraction + rng.below(8))) + any,
+        _ => rng.below(2) as u64,
+    };
+    bits + rng.pick(&[0, sign])
+}
+
+/// Puts such bits into a row of any type, as long as an element of it where that has four or eight
+/// bytes: as the first, the last or any element; or across two, so that they are none.
+fn put_border(rng: &mut Rng, row: &mut Row) {
+    let width = match size(row.kind) {
+        size @ (4 | 8) => size,
+        _ => rng.pick(&[4, 8]),
+    };
+    let Some(last) = (row.data.len() / width).checked_sub(1) else {
+        return;
+    };
+    let element = match rng.below(4) {
+        0 => 0,
+        1 => last,
+        _ => rng.below(last + 1),
+    };
+    let across = rng.chance(25);
+    let at = width * element + if across { rng.between(1, width - 1) } else { 0 };
+    let bits = border_bits(rng, width).to_le_bytes();
+    // Across the row's end as many bytes as it has.
+    let places = row.data[at..].iter_mut();
+    places.zip(&bits[..width]).for_each(|(place, bit)| *place = *bit);
+    if across {
+        make_numbers(row);
+    }
+}
+
+/// As [`rows`], with bits about the borders of NaNs in one or two of them, mostly in floats or
+/// doubles.
+pub fn border_rows(rng: &mut Rng, version: u32, known: &[Vec<u8>]) -> Vec<Row> {
+    let mut rows = rows(rng, version, known);
+    let count = rows.len();
+    for _ in 0..rng.between(1, 2) {
+        let row = &mut rows[rng.below(count)];
+        if rng.chance(80) {
+            row.kind = match rng.below(4) {
+                0 => rng.between(1, last_type(version).into()) as u8,
+                _ => rng.pick(&FLOATS),
+            };
+            (row.n, row.m) = (rng.between(1, 5) as u64, rng.pick(&[1, 1, 2, 4]));
+            row.data = rng.bytes(size(row.kind) * (row.n as usize) * row.m as usize);
+            make_numbers(row);
+        }
+        put_border(rng, row);
+    }
+    rows
+}
+
+/// Every chunk of an image that opens, as a row.
+pub fn chunk_rows(image: &[u8]) -> Vec<Row> {
+    let entries = (0..).map_while(|n| reference::entry(image, n).ok());
+    let row = |entry: reference::Entry| {
+        let name = reference::name(image, entry.id.into()).unwrap();
+        let data = reference::chunk(image, entry.frame, name).unwrap();
+        Row::new(name, entry.kind, entry.n, entry.m, data)
+    };
+    entries.map(row).collect()
+}
+
+/// Puts bits about the borders of NaNs into the chunks of an image that opens, without an append.
+pub fn put_borders(rng: &mut Rng, image: &mut [u8]) {
+    let rows = chunk_rows(image);
+    for (n, mut row) in rows.into_iter().enumerate() {
+        let location = reference::entry(image, n as u64).unwrap().location as usize;
+        put_border(rng, &mut row);
+        image[location..][..row.data.len()].copy_from_slice(&row.data);
+    }
+}
+
+/// Rows with different names, some of them of `known`, in any order, without NaNs. Their types are
+/// those of the version, but for a character now and then that it may not know.
 pub fn rows(rng: &mut Rng, version: u32, known: &[Vec<u8>]) -> Vec<Row> {
     let count = match rng.below(20) {
         0 => rng.between(5, 64),
@@ -188,9 +290,8 @@ pub fn rows(rng: &mut Rng, version: u32, known: &[Vec<u8>]) -> Vec<Row> {
     rows
 }
 
-/// An image made by appends, and the names in it; then frames are left out at the start or in the
-/// middle, some or as many as put the last one at the end.
-pub fn gapped(rng: &mut Rng) -> (Vec<u8>, Vec<Vec<u8>>) {
+/// An image made by appends, and the names in it.
+pub fn grown(rng: &mut Rng) -> (Vec<u8>, Vec<Vec<u8>>) {
     let mut image = fresh(rng);
     let room = rng.pick(&[1000, 3000]);
     image.extend(rng.bytes(room));
@@ -205,6 +306,13 @@ pub fn gapped(rng: &mut Rng) -> (Vec<u8>, Vec<Vec<u8>>) {
     }
     known.sort();
     known.dedup();
+    (image, known)
+}
+
+/// The same, with frames left out at the start or in the middle, some or as many as put the last one
+/// at the end.
+pub fn gapped(rng: &mut Rng) -> (Vec<u8>, Vec<Vec<u8>>) {
+    let (mut image, known) = grown(rng);
     leave_out(rng, &mut image);
     (image, known)
 }
@@ -252,7 +360,7 @@ pub struct Layout {
 
 /// An image built field by field that opens, however odd: of either version; blocks in either order,
 /// at odd places, touching, empty or at the slice's end; chunks before, between and behind them,
-/// sharing bytes, empty anywhere; frames left out; leftovers behind both lists.
+/// sharing bytes, empty anywhere, with NaNs; frames left out; leftovers behind both lists.
 pub fn odd(rng: &mut Rng) -> Layout {
     let slots = rng.pick(&[0, 1, 1, 2, 2, 3, 4, 6]);
     let segments = rng.pick(&[0, 1, 1, 1, 2, 3]);
@@ -350,6 +458,9 @@ pub fn odd(rng: &mut Rng) -> Layout {
         if behind == entries.len() {
             put64(&mut image, at + 16, 0);
         }
+    }
+    if rng.chance(30) {
+        put_borders(rng, &mut image);
     }
     let (index, name_block) = ((index, sizes[0]), (name_block, sizes[1]));
     Layout { image, names: listed, index, name_block, entries: entries.len(), list_end: at }
@@ -498,9 +609,8 @@ pub fn damaged_sheet(rng: &mut Rng, rows: &[Row]) -> Vec<u8> {
     sheet
 }
 
-/// A sheet whose rows have borders for numbers, zeros in names, equal names and unknown types.
-pub fn bent_sheet(rng: &mut Rng, version: u32, known: &[Vec<u8>]) -> Vec<u8> {
-    let mut rows = rows(rng, version, known);
+/// A sheet of these rows with borders for numbers, zeros in names, equal names and unknown types.
+pub fn bent_sheet(rng: &mut Rng, mut rows: Vec<Row>) -> Vec<u8> {
     let count = rows.len();
     for _ in 0..rng.between(1, 2) {
         let other = rows[rng.below(count)].name.clone();

@@ -41,6 +41,8 @@ pub const GROUPS: &[Group] = &[
     group("a run of appends, word for word", 1000, demand3),
     group("a run of appends over gaps, word for word", 500, gap_runs),
     group("searches in lists of many lengths", 400, searches),
+    group("sheets with NaNs", 6000, nan_sheets),
+    group("images with NaNs", 3000, nan_images),
 ];
 
 /// Every call once, on whatever the image is.
@@ -289,7 +291,7 @@ fn sheets(check: &mut Check, rng: &mut Rng) {
     for _ in 0..3 {
         let rows = generate::rows(rng, version(&image), &known);
         let sheet = match rng.below(4) {
-            0 => generate::bent_sheet(rng, version(&image), &known),
+            0 => generate::bent_sheet(rng, rows),
             1 => rng.bytes(rows.len() * 20),
             _ => generate::damaged_sheet(rng, &rows),
         };
@@ -333,6 +335,9 @@ fn many_names(check: &mut Check, rng: &mut Rng) {
     }
     check.append(&sheet(&rows), generate::limit(rng));
     check.open();
+    // 30 goes before 28.
+    let rows = generate::border_rows(rng, version(&image), known);
+    check.append(&sheet(&rows), generate::limit(rng));
 }
 
 /// Sheets of up to 65 rows, that double both blocks more than once.
@@ -540,29 +545,85 @@ fn longest(check: &mut Check, _: &mut Rng) {
     }
 }
 
+/// NaNs, and what is next to them, in sheets that may have other faults, for images that may too.
+fn nan_sheets(check: &mut Check, rng: &mut Rng) {
+    let (image, known) = match rng.below(8) {
+        0 => {
+            let mut layout = generate::odd(rng);
+            layout.bend(rng);
+            (layout.image, layout.names)
+        }
+        1 => generate::gapped(rng),
+        2..=4 => generate::grown(rng),
+        _ => start(rng),
+    };
+    check.load(&image);
+    for _ in 0..3 {
+        let rows = generate::border_rows(rng, version(&image), &known);
+        let names = names_of(&rows);
+        let sheet = match rng.below(6) {
+            0 | 1 => generate::bent_sheet(rng, rows),
+            2 => generate::damaged_sheet(rng, &rows),
+            _ => sheet(&rows),
+        };
+        for limit in [0, 1, generate::limit(rng)] {
+            check.append(&sheet, limit);
+        }
+        check.read_all(&names);
+    }
+}
+
+/// Images that hold NaNs: they read as before and take sheets without NaNs; of their own chunks, as
+/// rows again, some are refused.
+fn nan_images(check: &mut Check, rng: &mut Rng) {
+    let (mut image, mut known) = match rng.below(2) {
+        0 => generate::grown(rng),
+        _ => start(rng),
+    };
+    generate::put_borders(rng, &mut image);
+    check.load(&image);
+    check.read_all(&known);
+    for row in generate::chunk_rows(&image) {
+        check.append(&sheet(&[row]), 0);
+    }
+    let rows = generate::rows(rng, version(&image), &known);
+    check.append(&sheet(&rows), generate::limit(rng));
+    known.extend(names_of(&rows));
+    check.read_all(&known);
+}
+
 fn demand3(check: &mut Check, rng: &mut Rng) {
-    let (image, known) = start(rng);
-    run_from(check, rng, &image, &known);
+    let start = start(rng);
+    run_from(check, rng, start);
 }
 
 fn gap_runs(check: &mut Check, rng: &mut Rng) {
-    let (image, known) = generate::gapped(rng);
-    run_from(check, rng, &image, &known);
+    let start = generate::gapped(rng);
+    run_from(check, rng, start);
 }
 
-fn run_from(check: &mut Check, rng: &mut Rng, image: &[u8], known: &[Vec<u8>]) {
-    let calls: Vec<_> = (0..rng.between(1, 6))
-        .map(|_| {
-            let mut rows = generate::rows(rng, version(image), known);
+fn run_from(check: &mut Check, rng: &mut Rng, (mut image, known): (Vec<u8>, Vec<Vec<u8>>)) {
+    if rng.chance(25) {
+        generate::put_borders(rng, &mut image);
+    }
+    let version = version(&image);
+    let mut calls = Vec::new();
+    for _ in 0..rng.between(1, 6) {
+        let mut rows = generate::rows(rng, version, &known);
+        rows.truncate(3);
+        let sheet = match rng.below(8) {
+            0 => generate::damaged_sheet(rng, &rows),
+            _ => sheet(&rows),
+        };
+        calls.push(Call::new(version, sheet, generate::limit(rng)));
+        // Beside the others, so that a run is as long without those that are refused.
+        if rng.chance(40) {
+            let mut rows = generate::border_rows(rng, version, &known);
             rows.truncate(3);
-            let sheet = match rng.below(8) {
-                0 => generate::damaged_sheet(rng, &rows),
-                _ => sheet(&rows),
-            };
-            Call::new(version(image), sheet, generate::limit(rng))
-        })
-        .collect();
-    match Run::make(check.library(), image, &calls) {
+            calls.push(Call::new(version, crate::images::sheet(&rows), generate::limit(rng)));
+        }
+    }
+    match Run::make(check.library(), &image, &calls) {
         Ok(moments) => check.moments += moments,
         Err(what) => check.fail(|| what),
     }

@@ -131,6 +131,26 @@ impl Row {
     pub fn bytes(name: &[u8], data: &[u8]) -> Row {
         Row::new(name, 1, data.len() as u64, 1, data)
     }
+
+    pub fn holds_nan(&self) -> bool {
+        holds_nan(self.kind, &self.data)
+    }
+}
+
+/// The types whose elements can be NaNs, float and double.
+pub const FLOATS: [u8; 2] = [9, 10];
+
+/// Whether one of the elements of a chunk is a NaN.
+pub fn holds_nan(kind: u8, data: &[u8]) -> bool {
+    FLOATS.contains(&kind) && data.chunks_exact(size(kind)).any(is_nan)
+}
+
+/// Of a float's four bytes or a double's eight: without its sign, a NaN lies above infinity.
+pub fn is_nan(element: &[u8]) -> bool {
+    match *element {
+        [a, b, c, d] => u32::from_le_bytes([a, b, c, d]) & 0x7FFF_FFFF > 0x7F80_0000,
+        _ => get64(element, 0) & 0x7FFF_FFFF_FFFF_FFFF > 0x7FF0_0000_0000_0000,
+    }
 }
 
 pub fn sheet(rows: &[Row]) -> Vec<u8> {

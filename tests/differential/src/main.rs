@@ -67,8 +67,8 @@ fn main() -> ExitCode {
     let totals = run(library, &options);
     let seconds = start.elapsed().as_secs_f64();
     println!(
-        "{} comparisons, {} moments of runs, {seconds:.1} s",
-        totals.comparisons, totals.moments
+        "{} comparisons, {} appends accepted, {} moments of runs, {seconds:.1} s",
+        totals.comparisons, totals.accepted, totals.moments
     );
     println!("{} passed, {} failed", totals.passed, totals.failed);
     if totals.failed == 0 && totals.passed > 0 {

@@ -119,6 +119,37 @@ faults! {
     SearchBeforeTests,
     RefusedProbesKeepOut,
     NoChunkNoProbes,
+    ThirtyLeftOut,
+    InfinityRefused,
+    MinusZeroRefused,
+    NegativeNanPassed,
+    SignallingPassed,
+    QuietPassed,
+    FloatsNotTested,
+    DoublesNotTested,
+    DoubleByHighHalf,
+    DoubleAsTwoFloats,
+    ElementsBigEndian,
+    FloatsOneByteOff,
+    EveryPlaceTested,
+    FirstElementNotTested,
+    LastElementNotTested,
+    OnlyFirstRowTested,
+    OnlyLastRowTested,
+    NForElements,
+    MForElements,
+    U32RowRefused,
+    U64RowRefused,
+    CharacterRowRefused,
+    ThirtyBeforeOpening,
+    ThirtyBeforeThirtyOne,
+    ThirtyBeforeTwentySix,
+    ThirtyBeforeTwentySeven,
+    ThirtyAfterTwentyEight,
+    ThirtyAfterTwentyNine,
+    ThirtyNotAtLimitZero,
+    ThirtyForImage,
+    NanQuietedWhenRead,
 }
 
 pub struct Model {
@@ -144,6 +175,17 @@ fn width(kind: u8) -> u128 {
         _ => 0,
     }
 }
+
+/// The bytes of a float or double, and the bits of its exponent and of its fraction.
+#[derive(Clone, Copy)]
+struct Format {
+    size: usize,
+    exponent: u32,
+    fraction: u32,
+}
+
+const FLOAT: Format = Format { size: 4, exponent: 8, fraction: 23 };
+const DOUBLE: Format = Format { size: 8, exponent: 11, fraction: 52 };
 
 fn round_up(place: u128) -> u128 {
     place.div_ceil(8) * 8
@@ -614,12 +656,22 @@ impl Model {
             body += name_length + size;
             rows.push(Row { n, m, kind, name, data });
         }
+        self.names_verdict(&rows)?;
+        Ok(rows)
+    }
+
+    /// "A name holds a zero byte; two rows have one name."
+    fn names_verdict(&self, rows: &[Row]) -> Verdict<()> {
         let holds_zero = rows.iter().any(|row| row.name.contains(&0));
         let mut twice = false;
-        for a in 0..count {
+        for a in 0..rows.len() {
             for b in 0..a {
                 twice |= rows[a].name == rows[b].name;
             }
+        }
+        let holds_nan = self.holds_nan(rows);
+        if holds_nan && self.has(Fault::ThirtyBeforeTwentySix) {
+            return Err(30);
         }
         if twice && self.has(Fault::TwentySevenBeforeTwentySix) {
             return Err(27);
@@ -627,10 +679,94 @@ impl Model {
         if holds_zero {
             return Err(26);
         }
+        if holds_nan && self.has(Fault::ThirtyBeforeTwentySeven) {
+            return Err(30);
+        }
         if twice {
             return Err(27);
         }
-        Ok(rows)
+        Ok(())
+    }
+
+    /// "A sheet that holds such a float or double."
+    fn holds_nan(&self, rows: &[Row]) -> bool {
+        let tested = match self.fault {
+            Some(Fault::ThirtyLeftOut) => &[],
+            Some(Fault::OnlyFirstRowTested) => &rows[..1],
+            Some(Fault::OnlyLastRowTested) => &rows[rows.len() - 1..],
+            _ => rows,
+        };
+        tested.iter().any(|row| self.row_holds_nan(row))
+    }
+
+    /// Judged without its image, by the types of 2.1.
+    fn sheet_holds_nan(&self, sheet: &[u8]) -> bool {
+        self.rows(sheet, VERSION_2_1).is_ok_and(|rows| self.holds_nan(&rows))
+    }
+
+    fn row_holds_nan(&self, row: &Row) -> bool {
+        let format = match row.kind {
+            9 if !self.has(Fault::FloatsNotTested) => FLOAT,
+            10 if self.has(Fault::DoubleAsTwoFloats) => FLOAT,
+            10 if !self.has(Fault::DoublesNotTested) => DOUBLE,
+            3 if self.has(Fault::U32RowRefused) => FLOAT,
+            4 if self.has(Fault::U64RowRefused) => DOUBLE,
+            11 if self.has(Fault::CharacterRowRefused) => FLOAT,
+            _ => return false,
+        };
+        self.patterns(row, format.size).into_iter().any(|bits| self.is_nan(format, bits))
+    }
+
+    /// The elements of a row as numbers, back to back.
+    fn patterns(&self, row: &Row, size: usize) -> Vec<u128> {
+        let off = usize::from(row.kind == 9 && self.has(Fault::FloatsOneByteOff));
+        let step = if self.has(Fault::EveryPlaceTested) { 1 } else { size };
+        // Zeros stand behind the row for a reader that strays.
+        let data = [row.data, &vec![0; off]].concat();
+        let mut elements: Vec<&[u8]> = data[off..].windows(size).step_by(step).collect();
+        match self.fault {
+            Some(Fault::FirstElementNotTested) => drop(elements.drain(..elements.len().min(1))),
+            Some(Fault::LastElementNotTested) => drop(elements.pop()),
+            Some(Fault::NForElements) => elements.truncate(row.n as usize),
+            Some(Fault::MForElements) => elements.truncate(row.m as usize),
+            _ => {}
+        }
+        let value = |bytes: &&[u8]| match self.fault {
+            Some(Fault::ElementsBigEndian) => {
+                bytes.iter().fold(0, |sum, &byte| sum * 256 + u128::from(byte))
+            }
+            _ => number(bytes, 0, size),
+        };
+        elements.iter().map(value).collect()
+    }
+
+    /// "Floats that aren't numbers": the exponent is all ones, and the fraction is not 0, which
+    /// would be an infinity. "Infinities pass."
+    fn is_nan(&self, format: Format, bits: u128) -> bool {
+        let Format { exponent, fraction, .. } = format;
+        let minus = bits >> (exponent + fraction) == 1;
+        let magnitude = bits % (1 << (exponent + fraction));
+        let (power, rest) = (magnitude >> fraction, magnitude % (1 << fraction));
+        let ones = power + 1 == 1 << exponent;
+        let quiet = rest >> (fraction - 1) == 1;
+        match self.fault {
+            Some(Fault::InfinityRefused) => ones,
+            Some(Fault::MinusZeroRefused) if minus && magnitude == 0 => true,
+            Some(Fault::NegativeNanPassed) if minus => false,
+            Some(Fault::SignallingPassed) => ones && quiet,
+            Some(Fault::QuietPassed) => ones && rest != 0 && !quiet,
+            Some(Fault::DoubleByHighHalf) if format.size == 8 => ones && rest >> 32 != 0,
+            _ => ones && rest != 0,
+        }
+    }
+
+    /// "Images that hold such values."
+    fn image_holds_nan(&self, image: &[u8], view: &View) -> bool {
+        view.entries.iter().any(|&Listed { n, m, kind, location, .. }| {
+            let length = (n * m * width(kind)) as usize;
+            let data = &image[location as usize..][..length];
+            self.row_holds_nan(&Row { n, m, kind, name: b"", data })
+        })
     }
 
     /// "New 31, after 21 and before 22: the last frame is 4,294,967,294."
@@ -654,6 +790,9 @@ impl Model {
 
     /// The list of stores of an append.
     fn stores(&self, image: &[u8], sheet: &[u8]) -> Verdict<Vec<Store>> {
+        if self.has(Fault::ThirtyBeforeOpening) && self.sheet_holds_nan(sheet) {
+            return Err(30);
+        }
         let view = self.view(image)?;
         let full = self.full(&view);
         if full && self.has(Fault::ThirtyOneBeforeTwentyOne) {
@@ -669,10 +808,20 @@ impl Model {
         if full && self.has(Fault::ThirtyOneAfterTwentyTwo) {
             self.row_count(sheet)?;
         }
+        if full && self.has(Fault::ThirtyBeforeThirtyOne) && self.sheet_holds_nan(sheet) {
+            return Err(30);
+        }
         if full && !self.has(Fault::ThirtyOneAfterTwentyNine) {
             return Err(31);
         }
         let rows = self.rows(sheet, view.version)?;
+        // "Refused with 30, after 27 and before 28."
+        let image_too = self.has(Fault::ThirtyForImage) && self.image_holds_nan(image, &view);
+        let holds_nan = self.holds_nan(&rows) || image_too;
+        let late = self.has(Fault::ThirtyAfterTwentyNine);
+        if holds_nan && !late && !self.has(Fault::ThirtyAfterTwentyEight) {
+            return Err(30);
+        }
 
         let text = |&(at, length): &(usize, usize)| &image[at..at + length];
         let old_names: Vec<&[u8]> = view.names.iter().map(text).collect();
@@ -688,6 +837,9 @@ impl Model {
         let most = 1024 + usize::from(self.has(Fault::NamesUpTo1025));
         if old_names.len() + new_names.len() > most {
             return Err(28);
+        }
+        if holds_nan && !late {
+            return Err(30);
         }
         let all_names = [&old_names[..], &new_names].concat();
         let id_of = |name: &[u8]| all_names.iter().position(|&listed| listed == name).unwrap();
@@ -754,6 +906,9 @@ impl Model {
             if self.has(Fault::FinalPositionNotPadded) && !moves { unpadded } else { position };
         if last > image.len() as u128 {
             return Err(29);
+        }
+        if holds_nan {
+            return Err(30);
         }
         if full {
             return Err(31);
@@ -870,6 +1025,12 @@ impl Model {
         Ok(stores)
     }
 
+    /// "Each with its exact bits."
+    fn read_bits(&self, format: Format, bits: u64) -> u64 {
+        let quieted = self.has(Fault::NanQuietedWhenRead) && self.is_nan(format, bits.into());
+        bits | u64::from(quieted) << (format.fraction - 1)
+    }
+
     fn give<const K: usize>(&self, answer: Verdict<[u64; K]>, out: &mut [u64; K]) -> u64 {
         match answer {
             Ok(numbers) => {
@@ -944,8 +1105,8 @@ impl Library for Model {
                 11 if self.has(Fault::CharacterSigned) => [2, signed],
                 1..=4 | 11 => [1, unsigned],
                 5..=8 => [2, signed],
-                9 => [3, unsigned],
-                _ => [4, unsigned],
+                9 => [3, self.read_bits(FLOAT, unsigned)],
+                _ => [4, self.read_bits(DOUBLE, unsigned)],
             })
         });
         self.give(element, out)
@@ -1023,6 +1184,9 @@ impl Library for Model {
         let stores = match self.stores(image, sheet) {
             Ok(stores) => stores,
             Err(_) if limit == 0 && self.has(Fault::LimitBeforeTests) => return 0,
+            Err(30) if limit == 0 && self.has(Fault::ThirtyNotAtLimitZero) => {
+                return Model { fault: Some(Fault::ThirtyLeftOut) }.append(image, sheet, 0, out);
+            }
             Err(number) => return number,
         };
         let whole = stores.len() as u64;

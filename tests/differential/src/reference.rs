@@ -1,4 +1,4 @@
-//! Document 01 in plain Rust, with what document 02 has changed of it (W-201 to W-203), written
+//! Document 01 in plain Rust, with what document 02 has changed of it (W-201 to W-205), written
 //! from the papers alone.
 //!
 //! It is the independent second opinion of the differential tests and the baseline of the
@@ -451,6 +451,21 @@ struct Row<'s> {
     data: &'s [u8],
 }
 
+impl Row<'_> {
+    fn holds_nan(&self) -> bool {
+        match self.kind {
+            9 => any(self.data, |element| f32::from_le_bytes(element).is_nan()),
+            10 => any(self.data, |element| f64::from_le_bytes(element).is_nan()),
+            _ => false,
+        }
+    }
+}
+
+/// All elements are looked at: without an early way out the loop compiles to vector code.
+fn any<const SIZE: usize>(data: &[u8], test: impl Fn([u8; SIZE]) -> bool) -> bool {
+    data.as_chunks().0.iter().fold(false, |found, &element| found | test(element))
+}
+
 /// The rows of a sheet, by the types of the image's version.
 fn rows(sheet: &[u8], version: Version) -> Answer<Vec<Row<'_>>> {
     let (count, rest) = sheet.split_first_chunk().ok_or(22_u64)?;
@@ -484,6 +499,9 @@ fn rows(sheet: &[u8], version: Version) -> Answer<Vec<Row<'_>>> {
     let twice = |(later, row): (usize, &Row)| rows[..later].iter().any(|r| r.name == row.name);
     if rows.iter().enumerate().any(twice) {
         return Err(27);
+    }
+    if rows.iter().any(Row::holds_nan) {
+        return Err(30);
     }
     Ok(rows)
 }

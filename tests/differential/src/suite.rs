@@ -13,9 +13,9 @@ use std::time::{Duration, Instant};
 
 /// The numbers of document 01's table and those that document 02 adds; 2 has a slice of its own
 /// that is not compared here.
-const NUMBERS: [u64; 35] = [
+const NUMBERS: [u64; 36] = [
     1, 3, 4, 5, 6, 7, 8, 9, 10, 11, 12, 13, 14, 15, 16, 17, 18, 21, 22, 23, 24, 25, 26, 27, 28, 29,
-    31, 40, 41, 42, 43, 44, 50, 51, 52,
+    30, 31, 40, 41, 42, 43, 44, 50, 51, 52,
 ];
 
 pub struct Options {
@@ -30,6 +30,7 @@ pub struct Totals {
     pub passed: u64,
     pub failed: u64,
     pub comparisons: u64,
+    pub accepted: u64,
     pub moments: u64,
     /// How often each number was the answer compared.
     pub met: BTreeMap<u64, u64>,
@@ -79,8 +80,14 @@ fn rounds(check: &mut Check, options: &Options, number: usize, group: &Group) ->
 }
 
 pub fn run(library: &dyn Library, options: &Options) -> Totals {
-    let mut totals =
-        Totals { passed: 0, failed: 0, comparisons: 0, moments: 0, met: BTreeMap::new() };
+    let mut totals = Totals {
+        passed: 0,
+        failed: 0,
+        comparisons: 0,
+        accepted: 0,
+        moments: 0,
+        met: BTreeMap::new(),
+    };
     let wanted = |name: &str| name.contains(&options.only);
     for (name, case) in cases::all() {
         if wanted(&name) {
@@ -112,11 +119,14 @@ pub fn run(library: &dyn Library, options: &Options) -> Totals {
             let mut check = Check::new(library);
             totals.test(group.name, || {
                 let rounds = rounds(&mut check, options, number, group);
-                let Check { comparisons, failures, moments, .. } = check;
+                let Check { comparisons, failures, accepted, moments, .. } = check;
                 let mut note = format!(", {rounds} rounds");
-                for (count, what) in
-                    [(comparisons, "comparisons"), (moments, "moments"), (failures, "failures")]
-                {
+                for (count, what) in [
+                    (comparisons, "comparisons"),
+                    (accepted, "appends accepted"),
+                    (moments, "moments"),
+                    (failures, "failures"),
+                ] {
                     if count > 0 {
                         note += &format!(", {count} {what}");
                     }
@@ -124,6 +134,7 @@ pub fn run(library: &dyn Library, options: &Options) -> Totals {
                 (failures == 0, note)
             });
             totals.comparisons += check.comparisons;
+            totals.accepted += check.accepted;
             totals.moments += check.moments;
             for (number, times) in check.met {
                 *totals.met.entry(number).or_default() += times;

@@ -62,6 +62,7 @@ pub fn hold() {
     }
     created();
     frames_run_out();
+    nans_are_refused();
 }
 
 fn appends(rng: &mut Rng, image: &mut [u8], known: &mut Vec<Vec<u8>>) {
@@ -131,4 +132,25 @@ fn frames_run_out() {
     assert_eq!(dialmoth::append(&mut image, b"", 0), Err(Refusal::FRAMES_FULL));
     Slot::bytes(GREATEST_FRAME + 1, 0, 384, 4).put(&mut image, 256);
     assert_eq!(dialmoth::open(&image), Err(Refusal::LARGE_FRAME));
+}
+
+fn nans_are_refused() {
+    let mut image = blank(1024, 256, 2, 320, 1);
+    let before = image.clone();
+    let readings = [21.5, f32::NAN, f32::INFINITY].map(f32::to_le_bytes);
+    let data = readings.as_flattened();
+    let probe = Row { name: b"probe", kind: Type::Float, n: 3, m: 1, data };
+    for limit in [0, 1, u64::MAX] {
+        let stores = dialmoth::append(&mut image, &dialmoth::sheet(&[probe]), limit);
+        assert_eq!(stores, Err(Refusal::NAN_IN_SHEET));
+    }
+    assert_eq!(image, before);
+    for row in [
+        Row { kind: Type::U32, ..probe },
+        Row { n: 1, data: &data[8..], ..probe },
+        Row { kind: Type::Double, n: 0, data: b"", ..probe },
+    ] {
+        let stores = dialmoth::append(&mut image, &dialmoth::sheet(&[row]), u64::MAX);
+        assert!(stores.is_ok_and(dialmoth::Stores::is_whole));
+    }
 }

@@ -2,20 +2,26 @@
 //! random groups, not only by the cases made for it.
 
 use differential::check::Check;
+use differential::demand3::{Call, Run};
 use differential::groups::GROUPS;
+use differential::images::{blank, sheet, Row, V2_1};
 use differential::library::Library;
 use differential::model::{Fault, Model};
 use differential::suite::rng;
+use std::cmp::Reverse;
 use std::panic::{catch_unwind, AssertUnwindSafe};
 
 /// The first group that notices something within so many rounds, with the round in which it does.
 fn noticed(library: &dyn Library, most: u64) -> Option<(&'static str, u64)> {
     let mut check = Check::new(library);
     check.show = false;
+    // Groups of many rounds have short ones, so they go first.
+    let mut groups: Vec<_> = GROUPS.iter().enumerate().collect();
+    groups.sort_by_key(|(_, group)| Reverse(group.rounds));
     // A few rounds of each group, then more: most faults show at once.
     for rounds in [0..20, 20..400, 400..4000] {
         let rounds = rounds.start..rounds.end.min(most);
-        for (number, group) in GROUPS.iter().enumerate() {
+        for &(number, group) in &groups {
             // No fault is about slices of a gigabyte.
             if group.name == "the longest slices" {
                 continue;
@@ -85,6 +91,55 @@ fn a_run_of_appends_over_gaps_notices_what_breaks_it() {
         AppendFillsGap,
     ];
     run_notices("a run of appends over gaps, word for word", &faults);
+}
+
+/// The same where sheets with NaNs are among the calls.
+#[test]
+fn a_run_of_appends_with_nans_notices_what_breaks_it() {
+    use Fault::*;
+    let faults = [
+        ThirtyLeftOut,
+        InfinityRefused,
+        MinusZeroRefused,
+        NegativeNanPassed,
+        SignallingPassed,
+        QuietPassed,
+        FloatsNotTested,
+        DoublesNotTested,
+        DoubleByHighHalf,
+        DoubleAsTwoFloats,
+        ElementsBigEndian,
+        FloatsOneByteOff,
+        EveryPlaceTested,
+        FirstElementNotTested,
+        LastElementNotTested,
+        OnlyFirstRowTested,
+        OnlyLastRowTested,
+        NForElements,
+        MForElements,
+        U32RowRefused,
+        U64RowRefused,
+        CharacterRowRefused,
+        ThirtyAfterTwentyNine,
+        ThirtyNotAtLimitZero,
+        ThirtyForImage,
+    ];
+    run_notices("a run of appends, word for word", &faults);
+}
+
+/// What an append lets into the record is noticed there, whatever it answers.
+#[test]
+fn a_run_of_appends_finds_a_nan_in_the_record() {
+    let model = Model { fault: Some(Fault::ThirtyLeftOut) };
+    let row = Row::new(b"a", 9, 1, 1, &f32::NAN.to_le_bytes());
+    let calls =
+        [0, 5, u64::MAX].map(|limit| Call::new(V2_1, sheet(std::slice::from_ref(&row)), limit));
+    let start = blank(1024, 256, 2, 320, 1);
+    let noticed = |calls: &[Call]| Run::make(&model, &start, calls).unwrap_err();
+    // Until the last store is made, it is the answer that is wrong.
+    assert!(noticed(&calls[..1]).contains("if refused, one of [21, 30]"));
+    assert!(noticed(&calls[1..2]).contains("if refused, one of [21, 30]"));
+    assert!(noticed(&calls[2..]).contains("a NaN in the record"));
 }
 
 /// Panics unless the group notices each of these.

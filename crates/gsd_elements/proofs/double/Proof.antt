@@ -1,6 +1,7 @@
 -- A NaN's pattern reads as the one NaN, any other as its float.
 use lib.Ieee.{binary64, ofBits, div}
 use borrow.Author.Needs.{needs}
+use Rattle.gsd_format.specs.Elements.{nanElement}
 use Rattle.gsd_elements.proofs.Floats.{nan-of, no-nan}
 use Rattle.gsd_elements.proofs.double.Statement.{statement}
 use Rattle.gsd_elements.proofs.double.Tie as tie
@@ -9,10 +10,11 @@ nan64-requires : tie.Need-nan64-requires
 nan64-requires c κs = search needs
 
 returns : tie.Need-returns
-unfolding div ofBits
+unfolding div ofBits nanElement
 returns c = nan-of binary64 _ _ (c .before .nan64 .ensures) (c .if1 .taken)
 
 float-from-bits-result : tie.Need-float-from-bits-result
+unfolding nanElement
 float-from-bits-result c = no-nan binary64 _ _ (c .before .nan64 .ensures) (c .if1 .left)
 
 returns-2 : tie.Need-returns-2

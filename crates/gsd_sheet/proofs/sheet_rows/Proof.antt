@@ -2,7 +2,7 @@
 use mathlib.Core.Path.{_≡_, sym, _∙_}
 use native.Mathlib.Omega.{arith}
 use Rattle.gsd_sheet.specs.Rows.{tableTest, endTest}
-use Rattle.gsd_sheet.proofs.Rows.{Tabled, tabled, number-table, number-end, number-names}
+use Rattle.gsd_sheet.proofs.Rows.{Tabled, tabled, number-table, number-end, number-rows}
 use borrow.Author.Needs.{needs}
 use Rattle.gsd_sheet.proofs.sheet_rows.Statement.{statement}
 use Rattle.gsd_sheet.proofs.sheet_rows.Tie as tie
@@ -37,8 +37,8 @@ returns-2 c =
     let place = c .before .before .before .place-rows in
     (place .ensures .0 ∙ sym (number-end _ s table (λ z. c .if2 .taken (place .ensures .0 ∙ z))), λ z. absurd (c .if2 .taken z))
 
-names-number-requires : tie.Need-names-number-requires
-names-number-requires c κs =
+rows-number-requires : tie.Need-rows-number-requires
+rows-number-requires c κs =
     (search needs, (c .before .before .before .before .place-rows .ensures .1 (c .before .if2 .left), c .before .before .before .before .before .before .row-count .ensures))
 
 same-length-2 : tie.Need-same-length-2
@@ -52,7 +52,7 @@ returns-3 c =
     let table : tableTest (x .version) s ≡ 0 = sym (first .before .table-number .ensures) ∙ first .if1 .left in
     let place = c .before .before .before .before .before .place-rows in
     let end : endTest s ≡ 0 = sym (place .ensures .0) ∙ c .before .before .if2 .left in
-    (c .names-number .ensures ∙ sym (number-names _ s table end), λ z. place .ensures .1 (c .before .before .if2 .left))
+    (c .rows-number .ensures ∙ sym (number-rows _ s table end), λ z. place .ensures .1 (c .before .before .if2 .left))
 
 pub sheet-rows-spec : {M : Type 1} → statement M
 sheet-rows-spec =
@@ -64,6 +64,6 @@ sheet-rows-spec =
     place-rows-requires
     same-length
     returns-2
-    names-number-requires
+    rows-number-requires
     same-length-2
     returns-3)

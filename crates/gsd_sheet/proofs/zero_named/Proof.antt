@@ -2,12 +2,14 @@
 use Prim.Native.Nat.{_-_, _≤_}
 use mathlib.Core.Path.{_≡_, refl, sym, _∙_}
 use mathlib.Core.Bool.{true, false}
+use mathlib.Core.List.{[]}
 use native.Mathlib.Omega.{arith}
 use lib.ListN.{length, drop}
 use Rattle.gsd_format.specs.Bytes.{zeroIn}
+use Rattle.gsd_format.proofs.Lists.{one-next, one-end}
 use Rattle.gsd_stores.specs.Sheet.{anyZero}
 use Rattle.gsd_sheet.specs.Rows.{sheetNames, nameOf}
-use Rattle.gsd_sheet.proofs.Rows.{names-count, located-room, located-zero, zero-next, zero-none}
+use Rattle.gsd_sheet.proofs.Rows.{names-count, located-room, located-zero}
 use borrow.Author.Needs.{needs}
 use Rattle.gsd_sheet.proofs.zero_named.Statement.{statement}
 use Rattle.gsd_sheet.proofs.zero_named.Tie as tie
@@ -50,7 +52,7 @@ returns c =
     let i = head .loop .i in
     let zero : zeroIn (nameOf s i) 0 (length (nameOf s i)) ≡ true =
     located-zero (c .before .before .before .before .before .before .before .before .pre .1 .0) i (omega arith) ∙ sym (c .before .has-zero .ensures) ∙ c .if1 .taken in
-    rw (← head .loop .inv .1, zero-next (sheetNames s) i (omega (arith, names-count s)), zero)
+    rw (← head .loop .inv .1, one-next _ (sheetNames s) [] i (omega (arith, names-count s)), zero)
 
 add-i : tie.Need-add-i Inv-loop μ-loop
 add-i c = search needs
@@ -65,12 +67,12 @@ loop-again c =
     let i = head .loop .i in
     let full : zeroIn (nameOf s i) 0 (length (nameOf s i)) ≡ false =
     located-zero (c .before .before .before .before .before .before .before .before .pre .1 .0) i (omega arith) ∙ sym (c .before .has-zero .ensures) ∙ c .if1 .left in
-    (search needs, rw (← head .loop .inv .1, zero-next (sheetNames s) i (omega (arith, names-count s)), full))
+    (search needs, rw (← head .loop .inv .1, one-next _ (sheetNames s) [] i (omega (arith, names-count s)), full))
 
 returns-2 : tie.Need-returns-2 Inv-loop μ-loop
 returns-2 c =
     let s = c .before .before .before .before .args .sheet .now in
-    sym (sym (c .before .loop .inv .1) ∙ zero-none (sheetNames s) (c .before .loop .i) (omega (arith, names-count s)))
+    sym (sym (c .before .loop .inv .1) ∙ one-end _ (sheetNames s) (c .before .loop .i) (omega (arith, names-count s)))
 
 pub zero-named-spec : {M : Type 1} → statement M
 zero-named-spec =
