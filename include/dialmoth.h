@@ -1,5 +1,6 @@
 /*
- * dialmoth.h: read and append GSD 2.0 and 2.1 images that lie in memory.
+ * dialmoth.h: read GSD 1.0, 2.0 and 2.1 images that lie in memory, and append to
+ * those of 2.0 and 2.1.
  *
  * An image is a whole slice of memory lent by the caller, from 256 to
  * 1,073,741,824 bytes; a file's content, or a region laid out beforehand that
@@ -41,22 +42,25 @@ extern "C" {
     R(1, DIALMOTH_SHORT_IMAGE, "image under 256 bytes")                                         \
     R(2, DIALMOTH_LONG_IMAGE, "image over 1,073,741,824 bytes")                                 \
     R(3, DIALMOTH_WRONG_MAGIC, "wrong magic")                                                   \
-    R(4, DIALMOTH_WRONG_VERSION, "version not 2.0 or 2.1")                                      \
+    R(4, DIALMOTH_WRONG_VERSION, "version not 1.0, 2.0 or 2.1")                                 \
     R(5, DIALMOTH_UNCLOSED_TEXT, "application or schema has no zero byte")                      \
     R(6, DIALMOTH_INDEX_OUTSIDE, "index block starts below 256 or ends beyond the image")       \
     R(7, DIALMOTH_NAMES_OUTSIDE, "name block starts below 256 or ends beyond the image")        \
     R(8, DIALMOTH_BLOCKS_OVERLAP, "index block and name block share a byte")                    \
-    R(9, DIALMOTH_UNCLOSED_NAME, "a name has no zero byte before its block ends")               \
+    R(9, DIALMOTH_UNCLOSED_NAME,                                                                \
+      "a name has no zero byte before its block ends, in 1.0 before its segment does")          \
     R(10, DIALMOTH_MANY_NAMES, "more than 1,024 names")                                         \
     R(11, DIALMOTH_EQUAL_NAMES, "two equal names")                                              \
     R(12, DIALMOTH_LOW_LOCATION, "an entry's location is negative, or below 256 and not 0")     \
     R(13, DIALMOTH_UNKNOWN_TYPE, "an entry's type is not known in this version")                \
     R(14, DIALMOTH_UNKNOWN_ID, "an entry's id is not below the number of names")                \
-    R(15, DIALMOTH_FRAME_ORDER, "an entry's (frame, id) not above the entry before")            \
+    R(15, DIALMOTH_FRAME_ORDER,                                                                 \
+      "an entry's (frame, id) not above the entry before, in 1.0 a lower frame or a repeat")    \
     R(16, DIALMOTH_CHUNK_OUTSIDE, "a chunk ends beyond the image")                              \
     R(17, DIALMOTH_CHUNK_IN_BLOCK, "a chunk shares a byte with a block")                        \
     R(18, DIALMOTH_LARGE_FRAME, "an entry's frame above 4,294,967,294")                         \
     /* Append, in this order. */                                                                \
+    R(20, DIALMOTH_OLD_IMAGE, "the image is of version 1.0")                                    \
     R(21, DIALMOTH_UNALIGNED_BLOCK, "index or name location not a multiple of 8")               \
     R(31, DIALMOTH_FRAMES_FULL, "the last frame is 4,294,967,294")                              \
     R(22, DIALMOTH_ROW_COUNT, "sheet under 4 bytes, or its count is 0 or above 64")             \
@@ -152,7 +156,8 @@ uint64_t dialmoth_open(const uint8_t *image, size_t image_length,
 uint64_t dialmoth_name(const uint8_t *image, size_t image_length, uint64_t n,
                        uint64_t out[2]);
 
-/* The n-th entry of the index, from 0.
+/* The n-th entry of the index, from 0. They stand by (frame, id), in 1.0 by frame
+ * and in it in the order of writing.
  * out: frame, N, location, M, id, type, flags. */
 uint64_t dialmoth_entry(const uint8_t *image, size_t image_length, uint64_t n,
                         uint64_t out[7]);
@@ -182,7 +187,8 @@ uint64_t dialmoth_element(const uint8_t *image, size_t image_length,
  * the image is open and the name's id is known, by chunk and element too, and
  * halves the index; a probe reads one entry. Numbers as dialmoth_lookup.
  * out, set at every call: the probes; an entry probed twice counts twice. Among
- * n entries they are at most one more than n has binary digits, 17 for 40,000.
+ * n entries they are at most one more than n has binary digits, 17 for 40,000;
+ * in 1.0, where the search goes through the frame, as many more as that has entries.
  * With DIALMOTH_NO_CHUNK the search was made and counted; with any other refusal
  * there was none, and out is 0. */
 uint64_t dialmoth_probes(const uint8_t *image, size_t image_length,
@@ -211,7 +217,8 @@ uint64_t dialmoth_create(uint8_t *image, size_t image_length,
  * every older frame reads as it did, and the same append may be made again. (A
  * block that was moved before the stop stays moved, so it may take more room.)
  * The image keeps its version: one of 2.0 refuses a row of DIALMOTH_CHARACTER
- * with DIALMOTH_BAD_ROW, one of 2.1 takes it.
+ * with DIALMOTH_BAD_ROW, one of 2.1 takes it, and one of 1.0 takes no append at all:
+ * DIALMOTH_OLD_IMAGE, whatever the sheet and the limit.
  * A NaN among the elements of a row of floats or doubles, quiet or signalling,
  * of either sign, is refused with DIALMOTH_NAN_IN_SHEET, whatever the limit.
  * Infinities pass, and rows of other types are not looked at. An image that

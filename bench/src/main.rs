@@ -8,6 +8,7 @@
 mod fingerprint;
 mod work;
 
+use differential::images::{V1_0, V2_1};
 use differential::library::{Library, Reference};
 use differential::reference;
 use std::collections::HashMap;
@@ -223,6 +224,9 @@ fn zeros(bytes: &[u8]) {
 fn opening(pass: &mut Pass) {
     let month = work::month();
     pass.reading("open, 40,000 entries, 16 names", "open_month", |l| open(l, &month));
+    let old = work::old_month();
+    pass.reading("open 1.0, 40,000 entries, 16 names", "", |l| open(l, &old));
+    both_lists(pass);
 
     let names = work::names();
     let pairs = pass.reading("open, 1,024 names", "open_names", |l| open(l, &names));
@@ -250,6 +254,23 @@ fn opening(pass: &mut Pass) {
     }
 }
 
+/// Many names and many entries, in 1.0 and in 2.1, in turn.
+fn both_lists(pass: &mut Pass) {
+    let (library, old, new) =
+        (pass.library, work::month_of_names(V1_0), work::month_of_names(V2_1));
+    let sides: &mut [Side<()>] = &mut [
+        &mut |_, _| open(library, &old),
+        &mut |_, _| open(&Reference, &old),
+        &mut |_, _| open(library, &new),
+        &mut |_, _| open(&Reference, &new),
+    ];
+    let times = best(&mut (), |_| {}, 1, sides);
+    pass.row("open, 1,024 names, 40,000 entries", "", times[2], times[3]);
+    pass.row("open 1.0, 1,024 names, 40,000 entries", "", times[0], times[1]);
+    let what = "open 1.0, 1,024 names, 40,000 entries, beside the same in 2.1";
+    pass.row(what, "", times[0], times[2]);
+}
+
 fn days(pass: &mut Pass) {
     let (small, mut day) = (work::small(), Day::new());
     pass.reading("lookup, 24 entries", "", |l| lookup(l, &small, 4, b"heater"));
@@ -262,8 +283,8 @@ fn days(pass: &mut Pass) {
 }
 
 /// A chunk of the last of many frames.
-fn search(pass: &mut Pass) {
-    let (library, month) = (pass.library, work::month());
+fn search(pass: &mut Pass, what: &'static str, month: Vec<u8>) {
+    let library = pass.library;
     let last = |library| lookup(library, &month, work::MONTH - 1, b"probe/11/reading");
     let sides: &mut [Side<()>] = &mut [
         &mut |_, _| last(library),
@@ -272,7 +293,7 @@ fn search(pass: &mut Pass) {
         &mut |_, _| open(&Reference, &month),
     ];
     let times = best(&mut (), |_| {}, 1, sides);
-    pass.beyond_opening("lookup, 40,000 entries", &times);
+    pass.beyond_opening(what, &times);
 }
 
 /// One more frame behind many entries.
@@ -314,7 +335,8 @@ fn pass(library: &dyn Library, first: Option<&[Row]>) -> Vec<Row> {
     let mut pass = Pass { library, first, rows: Vec::new() };
     opening(&mut pass);
     days(&mut pass);
-    search(&mut pass);
+    search(&mut pass, "lookup, 40,000 entries", work::month());
+    search(&mut pass, "lookup 1.0, 40,000 entries", work::old_month());
     next(&mut pass, "append a frame of 3 chunks behind 40,000 entries", Next::fitting());
     next(&mut pass, "append a frame of 3 chunks, 65,536 slots", Next::doubled());
     large_chunks(&mut pass);
@@ -358,7 +380,9 @@ fn probes() {
     println!("|---|---|---|---|");
     let rows = [
         ("16 names, none missing in any frame", work::month()),
-        ("24 names, each third missing", work::month_with_missing()),
+        ("24 names, each third missing", work::month_with_missing(V2_1)),
+        ("1.0, 16 names, none missing in any frame", work::old_month()),
+        ("1.0, 24 names, each third missing", work::month_with_missing(V1_0)),
     ];
     for (what, image) in rows {
         for (of, how) in work::probed(library, &image).iter().zip(["found", "not found"]) {

@@ -2,7 +2,10 @@
 
 use crate::fingerprint;
 use differential::ask::Ask;
-use differential::images::{blank, lawful_rows, put_names, put_slots, sheet, version, Row, Slot};
+use differential::images::{
+    blank, lawful_rows, put32, put_names, put_slots, segments_for, sheet, version, Row, Slot, V1_0,
+    V2_1,
+};
 use differential::library::{Create, Library, Reference};
 use std::hint::black_box;
 
@@ -16,14 +19,17 @@ pub const MONTH: u64 = 2500;
 /// Slots of a fresh image whose calls are timed.
 const SLOTS: u64 = 64;
 
-/// 2,500 frames of so many names, in which 40,000 chunks are there; and some free slots, with room
-/// for their data.
-fn index(names: u16, there: impl Fn(u64, u16) -> bool, free: usize) -> Vec<u8> {
-    let (slots, segments) = (ENTRIES + free, 8);
+/// 2,500 frames of such names, in which 40,000 chunks are there; and some free slots, with room for
+/// their data. In 1.0 each frame was written from its last id to its first.
+fn index(version: u32, names: &[String], there: impl Fn(u64, u16) -> bool, free: usize) -> Vec<u8> {
+    let (slots, segments) = (ENTRIES + free, segments_for(version, names).max(8));
     let data = 256 + 32 * slots + 64 * segments;
     let mut image =
         blank(data + 8 * slots, 256, slots as u64, (data - 64 * segments) as u64, segments as u64);
-    let keys = (0..MONTH).flat_map(|frame| (0..names).map(move |id| (frame, id)));
+    put32(&mut image, 44, version);
+    let count = names.len() as u16;
+    let id = |n: u16| if version == V1_0 { count - 1 - n } else { n };
+    let keys = (0..MONTH).flat_map(|frame| (0..count).map(move |n| (frame, id(n))));
     let entries: Vec<_> = keys
         .filter(|&(frame, id)| there(frame, id))
         .enumerate()
@@ -31,24 +37,37 @@ fn index(names: u16, there: impl Fn(u64, u16) -> bool, free: usize) -> Vec<u8> {
         .collect();
     assert_eq!(entries.len(), ENTRIES);
     put_slots(&mut image, 256, &entries);
-    let names: Vec<_> = (0..names).map(|n| format!("probe/{n:02}/reading")).collect();
     put_names(&mut image, data - 64 * segments, names.iter().map(String::as_bytes));
     image
 }
 
+fn probes(count: usize) -> Vec<String> {
+    (0..count).map(|n| format!("probe/{n:02}/reading")).collect()
+}
+
 /// 16 names, all of them in every frame.
 fn month_and(free: usize) -> Vec<u8> {
-    index(16, |_, _| true, free)
+    index(V2_1, &probes(16), |_, _| true, free)
 }
 
 pub fn month() -> Vec<u8> {
     month_and(0)
 }
 
+pub fn old_month() -> Vec<u8> {
+    index(V1_0, &probes(16), |_, _| true, 0)
+}
+
 /// 24 names, each third of them missing: from the first on in even frames, from the third on in odd
 /// ones.
-pub fn month_with_missing() -> Vec<u8> {
-    index(24, |frame, id| u64::from(id) % 3 != 2 * (frame % 2), 0)
+pub fn month_with_missing(version: u32) -> Vec<u8> {
+    index(version, &probes(24), |frame, id| u64::from(id) % 3 != 2 * (frame % 2), 0)
+}
+
+/// 1,024 names, in each frame the next 16 of them.
+pub fn month_of_names(version: u32) -> Vec<u8> {
+    let names: Vec<_> = (0..NAMES).map(|n| format!("cabinet/reading {n:04}")).collect();
+    index(version, &names, |frame, id| u64::from(id / 16) == frame % 64, 0)
 }
 
 /// What the searches of some lookups probe.

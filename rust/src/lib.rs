@@ -1,4 +1,5 @@
-//! Safe calls of libdialmoth.a, which reads and appends GSD 2.0 and 2.1 images that lie in memory.
+//! Safe calls of libdialmoth.a, which reads GSD 1.0, 2.0 and 2.1 images that lie in memory, and
+//! appends to those of 2.0 and 2.1.
 //!
 //! ```
 //! use dialmoth::{Element, Row, Type};
@@ -41,7 +42,7 @@ pub enum Type {
     I64 = 8,
     Float = 9,
     Double = 10,
-    /// From 2.1 on: an image of 2.0 has none and takes none.
+    /// From 2.1 on: an image of 1.0 or 2.0 has none and takes none.
     Character = 11,
 }
 

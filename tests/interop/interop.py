@@ -4,6 +4,9 @@ Usage: interop.py PEER FILES [SEED]: the helper program, and the folder of store
 them, stdout their listings, each under its file's name.
 The last line is 'N passed, M failed'.
 
+Files of 1.0 are read alone: that of the real library's package, those made by hand (handmade.py, which
+is a third reader of them too), and what gsd.fl itself writes into one, or makes of it as it upgrades it.
+
 Conditions, for what is more than GSD allows cannot be read by it: names in UTF-8, M at least 1, at
 least one slot and one segment, flags 0. Characters it reads as one text, so they are UTF-8 with N at
 least 1 and M 1, and gsd.fl drops zeros at their end; it writes ASCII alone. A library that knows no
@@ -12,6 +15,7 @@ last one that has some is to be below the number of slots. An image whose last a
 this library's own readers only, until the clearing stores of the next append are made: the C reader
 finds the list's end by halving, and looks at slots behind it. gsd.fl writes NaNs, floats and doubles
 that are not a number; ours reads them, and refuses an append that has one with 30.
+In 1.0 gsd.fl wants a zero at the end of the name block, and gsd.pygsd wants nothing else behind a name.
 """
 
 import contextlib
@@ -29,6 +33,8 @@ import numpy
 import gsd.fl
 import gsd.pygsd
 import gsd.version
+
+import handmade
 
 GSD = getattr(gsd, "__version__", None) or gsd.version.version
 READ, WRITE, GROW = ("rb", "wb", "rb+") if GSD.startswith("2.") else ("r", "w", "r+")
@@ -53,7 +59,26 @@ NANS = {
 STORED_WITH_NANS = ["extremes.gsd", "random_0003.gsd", "ten_types.gsd", "2.1/extremes.gsd"]
 NAMES = ["a", "probe", "heater", "fan", "position", "particles/position", "größe/µ", "温度",
          "x" * 63, "y" * 64, "z" * 200]
+SHORT_NAMES = [name for name in NAMES if len(name.encode()) <= 63]
 ALL = 2**64 - 1
+CHUNKS = os.path.join(os.path.dirname(os.path.abspath(__file__)), "..", "files")
+# What gsd.fl and gsd.pygsd make of hand-made images of 1.0 that they do not both read as ours: "reads"
+# it, "names" are others and each chunk is the same, "other" chunks, "opens" what ours refuses, "corrupt".
+OTHERWISE = {
+    "behind_zero": ("names", "other"),
+    "behind_last_zero": ("corrupt", "names"),
+    "behind_entries": ("corrupt", "reads"),
+    "no_columns": ("other", "corrupt"),
+    "no_slots": ("corrupt", "reads"),
+    "greatest_frame": ("corrupt", "corrupt"),
+    "twice_in_frame": ("opens", "opens"),
+    "falling": ("opens", "corrupt"),
+    "open_segment": ("opens", "corrupt"),
+    "equal_names": ("opens", "opens"),
+    "characters": ("opens", "opens") if CHARACTERS else ("corrupt", "corrupt"),
+    "not_listed": ("corrupt", "corrupt"),
+    "frame_too_great": ("corrupt", "corrupt"),
+}
 
 
 class Peer:
@@ -75,28 +100,40 @@ class Peer:
             file.write(sheet(frame))
         return tuple(map(int, self.run("append", path, self.sheet, limit).split()))
 
-    def read(self, path):
-        """The number where refused, else the names and for each frame a dict of name to array."""
+    def listed(self, path):
+        """The number where refused, else the count of frames, the names, and of each entry the fields, the
+        place and length of its chunk, and its elements as 'kind:bits', up to 64."""
         lines = self.run("list", path).splitlines()
         if lines[0] != "0":
             return int(lines[0])
         frames, names, entries = map(int, lines[1].split())
-        listed = [bytes.fromhex(line.split()[1]).decode() for line in lines[2:2 + names]]
-        with open(path, "rb") as file:
-            image = file.read()
-        chunks = [{} for _ in range(frames)]
         assert len(lines) == 2 + names + entries
-        for line in lines[2 + names:]:
-            words = line.split()[1:]
-            frame, n, location, m, name, kind, _, start, length = map(int, words[:9])
+        listed = [bytes.fromhex(line[len("name "):]) for line in lines[2:2 + names]]
+        words = [line.split()[1:] for line in lines[2 + names:]]
+        return frames, listed, [(*map(int, each[:9]), each[9:]) for each in words]
+
+    def read(self, path):
+        """The number where refused, else the names and for each frame a dict of name to array."""
+        found = self.listed(path)
+        if isinstance(found, int):
+            return found
+        frames, names, entries = found
+        names = [name.decode() for name in names]
+        image = content(path)
+        chunks = [{} for _ in range(frames)]
+        for frame, n, location, m, name, kind, _, start, length, elements in entries:
             assert start == location
             data = numpy.frombuffer(image[start:start + length], TYPES[kind]).reshape(n, m)
-            elements = data.view("uint8") if kind == 11 else data
-            for element, word in zip(elements.flat, words[9:]):
-                assert same_element(element, kind, word), (line, element)
-            assert len(words) - 9 == min(64, n * m)
-            chunks[frame][listed[name]] = data
-        return listed, chunks
+            assert same_elements(data, kind, elements), (frame, names[name], data, elements)
+            chunks[frame][names[name]] = data
+        return names, chunks
+
+
+def same_elements(data, kind, words):
+    """Whether the elements answered are those of the array, up to 64 of them."""
+    flat = (data.view("uint8") if kind == 11 else data).reshape(-1)[:64]
+    return len(words) == len(flat) and all(
+        same_element(element, kind, word) for element, word in zip(flat, words))
 
 
 def same_element(element, kind, word):
@@ -152,11 +189,11 @@ def random_chunk(rng, kind, n, m, nans):
     return numpy.frombuffer(raw, TYPES[kind]).reshape(n, m)
 
 
-def random_frame(rng, letters="", nans=False):
+def random_frame(rng, letters="", nans=False, names=NAMES):
     """Some chunks, empty ones too; where letters are given characters, and where asked for NaNs, which
     the real library alone can append."""
     frame = {}
-    for name in rng.sample(NAMES, rng.randint(1, 4)):
+    for name in rng.sample(names, rng.randint(1, 4)):
         kind = rng.randint(1, 11 if letters else 10)
         if kind == 11:
             frame[name] = random_text(rng, letters)
@@ -302,6 +339,11 @@ def content(path):
         return file.read()
 
 
+def save(path, image):
+    with open(path, "wb") as file:
+        file.write(image)
+
+
 def ours_refuses(peer, path, frame, number):
     """Holds an append to its refusal, at any limit, and the image to its bytes."""
     before = content(path)
@@ -400,11 +442,86 @@ def make_longer(path):
         file.write(bytes(100_000))
 
 
-def first_lines(path):
-    """The first line of each file's listing, by the file's name."""
-    with open(path) as file:
-        lines = file.read().splitlines()
-    return {name: first for name, first in zip(lines, lines[1:]) if name.endswith(".gsd")}
+def listings(path):
+    """Each file's listing, by the file's name."""
+    found = {}
+    with open(path, encoding="ascii") as file:
+        for line in file:
+            if line.endswith(".gsd\n"):
+                name = line[:-1]
+                found[name] = ""
+            else:
+                found[name] += line
+    return found
+
+
+def package_files():
+    """The files of 1.0 that come in the real library's package."""
+    top = os.path.dirname(gsd.__file__)
+    found = [os.path.join(folder, name) for folder, _, names in os.walk(top) for name in names]
+    return sorted(path for path in found if path.endswith(".gsd") and layer_of(path) == (1, 0))
+
+
+def ours_reads_old(peer, path):
+    """Holds ours to the reader by documents 001 and 002: the number, or every name, entry, chunk and
+    element, the entries in the order of writing."""
+    image = content(path)
+    found, expected = peer.listed(path), handmade.read(image)
+    if isinstance(expected, int):
+        assert found == expected, (found, expected)
+        return
+    assert not isinstance(found, int), found
+    frames, names, entries = found
+    assert (frames, names) == (handmade.frames_of(expected[1]), expected[0])
+    assert len(entries) == len(expected[1])
+    for entry, (*fields, start, length, elements) in zip(expected[1], entries):
+        assert tuple(fields) == entry
+        data = handmade.data_of(image, entry)
+        assert (start, length) == (entry.location, len(data))
+        assert same_elements(numpy.frombuffer(data, TYPES[entry.kind]), entry.kind, elements), entry
+
+
+def ours_refuses_old(peer, rng, path, number=20):
+    """No append goes into 1.0, whatever the sheet, and with room or without."""
+    for _ in range(2):
+        for frame in [random_frame(rng), {}, with_nan(rng, {})]:
+            ours_refuses(peer, path, frame, number)
+        make_longer(path)
+
+
+def real_makes(reader, frames, names):
+    """What a reader of the real library makes of an image of 1.0, in the words of OTHERWISE."""
+    try:
+        file = reader()
+    except RuntimeError as error:
+        assert "Corrupt GSD file" in str(error) or "Invalid gsd argument" in str(error), error
+        return "corrupt"
+    with file:
+        assert file.gsd_version == (1, 0)
+        if frames is None:
+            return "opens"
+        try:
+            hold(file, frames)
+        except (AssertionError, KeyError, ValueError):
+            return "other"
+        return "reads" if file.find_matching_chunk_names("") == names else "names"
+
+
+def frames_by_hand(image):
+    """Names and frames of an image of 1.0 by documents 001 and 002; None for both where it is refused,
+    and for the frames where they are not for an array."""
+    found = handmade.read(image)
+    if isinstance(found, int):
+        return None, None
+    names, entries = [name.decode() for name in found[0]], found[1]
+    if handmade.frames_of(entries) > 1000:
+        return names, None
+    frames = [{} for _ in range(handmade.frames_of(entries))]
+    for entry in entries:
+        data = numpy.frombuffer(handmade.data_of(image, entry), TYPES[entry.kind])
+        n = 0 if entry.m == 0 else entry.n
+        frames[entry.frame][names[entry.id]] = data.reshape(n, entry.m)
+    return names, frames
 
 
 class Tests:
@@ -699,8 +816,103 @@ class Tests:
         self.grown(rng, path, frames)
 
 
+    def package_file(self, rng, path, packed):
+        """The real file of 1.0: ours has each name and chunk that gsd.fl and gsd.pygsd have, and finds none
+        where they find none. As gsd.fl upgrades it, it has the same chunks."""
+        shutil.copyfile(packed, path)
+        ours_reads_old(self.peer, path)
+        frames, names, entries = self.peer.listed(path)
+        counts = frames, len(names), len(entries)
+        print(f"{os.path.basename(packed)}: {counts[0]} frames, {counts[1]} names, {counts[2]} entries")
+        assert counts == (5, 127, 635) or os.path.basename(packed) != "test_gsd_v1.gsd"
+        keys = [(frame, number) for frame, _, _, _, number, *_ in entries]
+        assert keys != sorted(keys)
+        names, frames = self.peer.read(path)
+        assert sum(map(len, frames)) == counts[2]
+        real_reads(path, frames, (1, 0), names)
+        self.upgraded(rng, path, names, frames)
+        shutil.copyfile(packed, path)
+        ours_refuses_old(self.peer, rng, path)
+
+    def upgraded(self, rng, path, names, frames):
+        """gsd.fl turns a file of 1.0 into one of its own layer, which takes our appends."""
+        with gsd.fl.open(path, GROW) as file:
+            file.upgrade()
+        assert layer_of(path) == self.layer
+        real_reads(path, frames, self.layer, names)
+        ours_reads(self.peer, path, frames, names)
+        self.grown(rng, path, frames)
+
+    def stored_old(self, rng, path, name, stored, listing, chunks):
+        """A hand-made image is stored as handmade.py makes it, with its listing and chunks; ours reads or
+        refuses it, and the readers of the real library do what OTHERWISE says, or read the same."""
+        image = handmade.IMAGES[name]
+        assert content(stored) == image
+        assert listing == handmade.listing(image)
+        assert content(chunks).decode() == handmade.chunk_lines(image)
+        shutil.copyfile(stored, path)
+        names, frames = frames_by_hand(image)
+        made = tuple(real_makes(reader, frames, names) for reader in readers(path))
+        assert made == OTHERWISE.get(name, ("reads", "reads")), made
+        ours_reads_old(self.peer, path)
+        if made == ("reads", "reads"):
+            names, frames = self.peer.read(path)
+            real_reads(path, frames, (1, 0), names)
+        refused = handmade.read(image)
+        ours_refuses_old(self.peer, rng, path, refused if isinstance(refused, int) else 20)
+
+    def by_hand(self, rng, path, dirty=False):
+        """An image of 1.0 made by hand, which all read alike; where dirty gsd.pygsd does not, and gsd.fl
+        has more names."""
+        save(path, handmade.random_image(rng, dirty))
+        _, frames = frames_by_hand(content(path))
+        ours_reads_old(self.peer, path)
+        names, found = self.peer.read(path)
+        if dirty:
+            with gsd.fl.open(path, READ) as file:
+                hold(file, found)
+        else:
+            real_reads(path, found, (1, 0), names)
+        ours_reads(self.peer, path, frames, names)
+        ours_refuses_old(self.peer, rng, path)
+
+    def by_hand_dirty(self, rng, path):
+        self.by_hand(rng, path, dirty=True)
+
+    def by_hand_damaged(self, rng, path):
+        """The real library is not asked: it looks at less."""
+        image = handmade.random_image(rng, rng.random() < 0.5)
+        for _ in range(rng.choice([1, 1, 2])):
+            image = handmade.damaged(rng, image)
+            if handmade.read(image) in range(1, 9):
+                break
+        save(path, image)
+        ours_reads_old(self.peer, path)
+
+    def real_grows_old(self, rng, path):
+        """gsd.fl appends to a file of 1.0, which stays one; then it upgrades it. Characters, which it
+        takes in 1.0 too, are not known there."""
+        save(path, handmade.random_image(rng, room=9))
+        names, frames = frames_by_hand(content(path))
+        more = [random_frame(rng, nans=True, names=SHORT_NAMES) for _ in range(rng.randint(1, 2))]
+        more = spread(rng, more)
+        append_real(path, more)
+        frames += more
+        ours_reads_old(self.peer, path)
+        found, _ = self.peer.read(path)
+        assert found[:len(names)] == names
+        real_reads(path, frames, (1, 0), found)
+        ours_reads(self.peer, path, frames, found)
+        ours_refuses_old(self.peer, rng, path)
+        if CHARACTERS and rng.random() < 0.3:
+            append_real(path, [{"text": random_text(rng, ASCII)}])
+            assert layer_of(path) == (1, 0) and self.peer.read(path) == 13
+        else:
+            self.upgraded(rng, path, found, frames)
+
+
 def stored_files(folder):
-    """The stored files, as "NAME.gsd" or "2.1/NAME.gsd"."""
+    """The stored files of the real library, as "NAME.gsd" or "2.1/NAME.gsd"."""
     for inner in ["", "2.1/"]:
         for name in sorted(os.listdir(os.path.join(folder, inner))):
             if name.endswith(".gsd"):
@@ -735,10 +947,29 @@ def main():
         tests.test("ours with infinities where NaNs were refused", 60, tests.infinities)
         tests.test("files of gsd.fl with NaNs, read and grown by ours", 60, tests.real_nans)
         tests.test("ours with NaNs of gsd.fl, grown by ours", 30, tests.real_nans_in_ours)
-        listed = first_lines(os.path.join(files, "stdout"))
+        listed = listings(os.path.join(files, "stdout"))
         for name in stored_files(os.path.join(files, "data")):
-            stored, first, nans = os.path.join(files, "data", name), listed[name], name in STORED_WITH_NANS
+            stored, nans = os.path.join(files, "data", name), name in STORED_WITH_NANS
+            first = listed[name].splitlines()[0]
             tests.test(f"stored {name}", 1, lambda rng, path: tests.stored(rng, path, stored, first, nans))
+        packages = package_files()
+        if not packages:
+            print(f"the package of gsd {GSD} has no file of 1.0: not tested")
+        for packed in packages:
+            what = f"{os.path.basename(packed)} of the package, of 1.0"
+            tests.test(what, 1, lambda rng, path: tests.package_file(rng, path, packed))
+        folder_1_0 = os.path.join(files, "data", "1.0")
+        stored_names = sorted(name.removesuffix(".gsd") for name in os.listdir(folder_1_0))
+        assert stored_names == sorted(handmade.IMAGES), stored_names
+        for name in handmade.IMAGES:
+            stored, listing = os.path.join(folder_1_0, name + ".gsd"), listed[f"1.0/{name}.gsd"]
+            chunks = os.path.join(CHUNKS, "1.0", name + ".chunks")
+            tests.test(f"hand-made 1.0/{name}.gsd", 1,
+                       lambda rng, path: tests.stored_old(rng, path, name, stored, listing, chunks))
+        tests.test("random images of 1.0 made by hand", 60, tests.by_hand)
+        tests.test("the same with bytes behind names and lists, read by gsd.fl", 60, tests.by_hand_dirty)
+        tests.test("damaged images of 1.0", 300, tests.by_hand_damaged)
+        tests.test("images of 1.0, grown and upgraded by gsd.fl", 60, tests.real_grows_old)
     print(f"{tests.passed} passed, {tests.failed} failed")
     return 1 if tests.failed else 0
 

@@ -65,7 +65,7 @@ module _ {x sheet p : List ℕ} (h : Carried x sheet p) where
   ready-plan = ready x (rowsOf sheet) valid-rows
 
   shown : Is x (viewOf x)
-  shown = opens-shown x (valid-rows .opens)
+  shown = opens-shown x (valid-rows .opens) (valid-rows .recent)
 
   pub plan-stores : storesOf sheet x (tasks (extentsOf sheet p)) ≡ storesFor x sheet
   plan-stores = stores-listed sheet ready-plan shown (accepted-exact x sheet (h .accepts)) (h .image) (h .rows) p (h .plan) ∙ sym (stores-are x sheet (h .accepts))

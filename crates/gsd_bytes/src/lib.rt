@@ -3,7 +3,7 @@ ghost use mathlib.Core.Path.{_≡_};
 ghost use Prim.Native.Nat.{_+_, _-_, _*_, _≤_, _<_};
 ghost use lib.ListN.{length, take};
 ghost use Rattle.gsd_format.specs.Bytes.{le, leBytes, part, same, zeros, stored};
-ghost use Rattle.gsd_format.specs.Header.{magic};
+ghost use Rattle.gsd_format.specs.Header.{magic, v10};
 ghost use Rattle.gsd_format.specs.Types.{sizeOf, lastType, known};
 
 mod floats;
@@ -145,7 +145,7 @@ pub fn put_text(s: &mut [u8], at: usize, t: &[u8])
 }
 
 // The format's numbers: the bytes of the header, of a slot of the index and of a segment of the name list; the most names, the
-// greatest number of a frame, and the bytes of the longest image; GSD 2.0 and 2.1.
+// greatest number of a frame, and the bytes of the longest image; GSD 1.0, 2.0 and 2.1.
 pub const HEADER_SIZE: u64 = 256;
 
 pub const SLOT_SIZE: u64 = 32;
@@ -158,9 +158,18 @@ pub const GREATEST_FRAME: u64 = 4294967294;
 
 pub const GREATEST_LENGTH: usize = 1073741824;
 
+pub const VERSION_1_0: u64 = 0x00010000;
+
 pub const VERSION_2_0: u64 = 0x00020000;
 
 pub const VERSION_2_1: u64 = 0x00020001;
+
+// Is it 1.0, where a name has a segment of its own and entries stand in the order of writing?
+pub fn is_10(version: u64) -> bool
+    ensures { λ r. ⌜ r ≡ v10 version ⌝ }
+{
+    version == VERSION_1_0
+}
 
 // Places in the header, as specs/Header.antt of gsd_format has them, and the bytes of application and of schema.
 pub const INDEX_PLACE: usize = 8;

@@ -17,7 +17,7 @@ use Rattle.gsd_format.specs.Opening.{verdict, countsOf}
 use Rattle.gsd_format.specs.Create.{defaultSlots, defaultSegments, orDefault, filled, freshHeader, freshLength, fresh, createNumber, created, Fresh}
 use Rattle.gsd_format.proofs.Bytes.{le-back, part-at, zero-in, zero-le}
 use Rattle.gsd_format.proofs.Texts.{place}
-use Rattle.gsd_format.proofs.Names.{is-namesOf, zero-closed, pass-names}
+use Rattle.gsd_format.proofs.Names.{is-namesOf, zero-closed, open-recent, pass-names}
 use Rattle.gsd_format.proofs.Entries.{is-none, is-entries}
 use Rattle.gsd_format.proofs.Verdict.{verdict-zero, opening-open}
 use Rattle.gsd_format.proofs.Create.{Takes, takes, created-made}
@@ -111,7 +111,7 @@ module _ (slice application schema : List ℕ) (schemaVersion slots segments : �
 
   no-names : namesOf x ≡ []
   unfolding flat
-  no-names = is-namesOf x [] (rw laid (record { few = omega arith; each = λ k l. absurd (omega arith); good = tt; closed = names-closed }))
+  no-names = is-namesOf x [] (rw laid refl) (rw laid (record { few = omega arith; each = λ k l. absurd (omega arith); good = tt; closed = names-closed }))
 
   -- and so it opens
   fresh-opens : verdict x ≡ 0
@@ -132,9 +132,9 @@ module _ (slice application schema : List ℕ) (schemaVersion slots segments : �
       namelistHigh = omega (arith, t .room);
       apart = λ p a b c d. omega arith;
     });
-    names = rw (laid, no-names) (pass-names x asked [] (zero-closed x asked [] names-closed) (omega arith) tt);
+    names = rw (laid, no-names) (pass-names x asked [] (open-recent x asked [] refl ∙ zero-closed x asked [] names-closed) (omega arith) tt);
     sound = rw no-entries (λ i l. absurd (omega arith));
-    ordered = rw no-entries tt;
+    arranged = rw no-entries tt;
   })
 
   nothing-listed : countsOf x ≡ record { frames = 0; names = 0; entries = 0 }

@@ -5,8 +5,10 @@ pub mod Bytes
 pub mod Texts
 pub mod Ids
 pub mod Names
+pub mod Segments
 pub mod Types
 pub mod Entries
+pub mod Arranged
 pub mod Walk
 pub mod Verdict
 pub mod Lookup

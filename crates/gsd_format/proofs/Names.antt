@@ -9,17 +9,17 @@ use native.Mathlib.Decide.{ℕ-discrete, decLt}
 use native.Mathlib.Omega.{arith}
 use lib.ListN.{length, getD, take, length-append, length-map}
 use lib.Dec.{ltb, eqb}
-use borrow.Author.Tests.{eqb-true, eqb-false, eq-eqb, ne-eqb, ltb-true, lt-ltb, le-ltb, not-true, not-false}
+use borrow.Author.Tests.{eqb-true, eq-eqb, ne-eqb, lt-ltb, le-ltb, not-false}
 use borrow.Author.Count.{below-more}
 use Rattle.gsd_format.specs.declared.Layout.{Layout}
 use Rattle.gsd_format.specs.declared.Part.{Part}
 use Rattle.gsd_format.specs.Bytes.{part, zeroIn}
-use Rattle.gsd_format.specs.Header.{layoutOf}
+use Rattle.gsd_format.specs.Header.{v10, layoutOf}
 use Rattle.gsd_format.specs.Refusals.{_⇒_, _▹_}
-use Rattle.gsd_format.specs.Names.{partsAt, nameParts, namesOf, namesAt, bytesOf, flat, Distinct}
-use Rattle.gsd_format.specs.Opening.{mostNames, unclosed, twins, namesTest}
+use Rattle.gsd_format.specs.Names.{partsAt, segmentsAt, blockParts, nameParts, namesOf, blockNames, namesAt, bytesOf, flat, Distinct}
+use Rattle.gsd_format.specs.Opening.{mostNames, unclosed, unclosedFrom, openName, twins, namesTest}
 use Rattle.gsd_format.proofs.Lists.{Each, each-append, each-so}
-use Rattle.gsd_format.proofs.Refusals.{both, none-of, unmet, passed, both-true, not-less, less-no}
+use Rattle.gsd_format.proofs.Refusals.{both, none-of, unmet, passed, not-less, less-no}
 use Rattle.gsd_format.proofs.Ids.{twins-distinct, distinct-twins}
 use Rattle.gsd_format.proofs.Bytes.{Same, Text, same-tail, same-from, no-zero, part-length, part-at}
 use Rattle.gsd_format.proofs.Texts.{place, byte-inside, text-part, part-text, text-kept}
@@ -445,24 +445,35 @@ parts-at (b ∷ ns) at (suc i) d l =
 -- The name list of an image
 
 -- its listed names and their places, in the block that its header tells
-pub names-of : (x : List ℕ) → namesOf x ≡ namesAt x (layoutOf x .namelist) (64 * layoutOf x .segments)
-unfolding namesOf nameParts
-names-of x = refl
+pub parts-of-block : (x : List ℕ) → nameParts x ≡ blockParts x (layoutOf x)
+unfolding nameParts
+parts-of-block x = refl
 
-pub parts-of : (x : List ℕ) → nameParts x ≡ partsOf (layoutOf x .namelist) (namesOf x)
-unfolding namesOf nameParts
-parts-of x = parts-listed x (layoutOf x .namelist) (64 * layoutOf x .segments)
+pub names-of-block : (x : List ℕ) → namesOf x ≡ blockNames x (layoutOf x)
+unfolding namesOf
+names-of-block x = ap (map (bytesOf x)) (parts-of-block x)
+
+-- as many names as places
+pub parts-many : (x : List ℕ) → length (nameParts x) ≡ length (namesOf x)
+unfolding namesOf
+parts-many x = sym (length-map (nameParts x) (bytesOf x))
+
+-- by the version
+pub parts-recent : (x : List ℕ) (l : Layout) → v10 (l .version) ≡ false → blockParts x l ≡ partsAt x (l .namelist) (l .namelist) (64 * l .segments)
+unfolding blockParts
+parts-recent x l r = rw (r, blockParts)
+
+pub parts-10 : (x : List ℕ) (l : Layout) → v10 (l .version) ≡ true → blockParts x l ≡ segmentsAt x (l .namelist) (l .segments)
+unfolding blockParts
+parts-10 x l r = rw (r, blockParts)
+
+pub names-recent : (x : List ℕ) (l : Layout) → v10 (l .version) ≡ false → blockNames x l ≡ namesAt x (l .namelist) (64 * l .segments)
+names-recent x l r = ap (map (bytesOf x)) (parts-recent x l r)
 
 -- what stands in the block is what is listed
-pub is-namesOf : (x : List ℕ) (ns : List (List ℕ)) → IsNames x (layoutOf x .namelist) (64 * layoutOf x .segments) ns → namesOf x ≡ ns
-is-namesOf x ns h = names-of x ∙ names-is x (layoutOf x .namelist) (64 * layoutOf x .segments) ns h
-
--- blocks of the same bytes list the same names
-pub namesOf-same : (x y : List ℕ) → layoutOf x .segments ≡ layoutOf y .segments →
-    Same x (layoutOf x .namelist) y (layoutOf y .namelist) (64 * layoutOf y .segments) → namesOf x ≡ namesOf y
-namesOf-same x y e s =
-    names-of x ∙ ap (λ n. namesAt x (layoutOf x .namelist) (64 * n)) e
-    ∙ names-same x (layoutOf x .namelist) y (layoutOf y .namelist) (64 * layoutOf y .segments) s ∙ sym (names-of y)
+pub is-namesOf : (x : List ℕ) (ns : List (List ℕ)) → v10 (layoutOf x .version) ≡ false →
+    IsNames x (layoutOf x .namelist) (64 * layoutOf x .segments) ns → namesOf x ≡ ns
+is-namesOf x ns r h = names-of-block x ∙ names-recent x (layoutOf x) r ∙ names-is x (layoutOf x .namelist) (64 * layoutOf x .segments) ns h
 
 -- Numbers 9 to 11
 
@@ -481,47 +492,44 @@ zero-closed x l ns f = go (decLt (length (flat ns)) (64 * l .segments))
     go (yes m) = rw (lt-ltb (length (flat ns)) (64 * l .segments) m, f m)
     go (no m) = rw (le-ltb (length (flat ns)) (64 * l .segments) (omega arith))
 
-pub namesOf-are : (x : List ℕ) → unclosed x (layoutOf x) (namesOf x) ≡ false → IsNames x (layoutOf x .namelist) (64 * layoutOf x .segments) (namesOf x)
-unfolding namesOf nameParts
-namesOf-are x h = names-are x (layoutOf x .namelist) (64 * layoutOf x .segments) (closed-zero x (layoutOf x) (namesOf x) h)
+pub namesOf-are : (x : List ℕ) → v10 (layoutOf x .version) ≡ false → unclosed x (layoutOf x) (namesOf x) ≡ false →
+    IsNames x (layoutOf x .namelist) (64 * layoutOf x .segments) (namesOf x)
+namesOf-are x r h =
+    let e : namesOf x ≡ namesAt x (layoutOf x .namelist) (64 * layoutOf x .segments) = names-of-block x ∙ names-recent x (layoutOf x) r in
+    rw e (names-are x (layoutOf x .namelist) (64 * layoutOf x .segments) (rw e at (closed-zero x (layoutOf x) (namesOf x) h)))
 
--- they are not: a name begins there, and no zero closes it before the block ends
-pub unclosed-full : (x : List ℕ) → unclosed x (layoutOf x) (namesOf x) ≡ true → (length (flat (namesOf x)) < 64 * layoutOf x .segments)
-    × Full x (layoutOf x .namelist + length (flat (namesOf x))) (64 * layoutOf x .segments - length (flat (namesOf x)))
-unfolding namesOf nameParts
-unclosed-full x h =
-    let c : ℕ = getD x (layoutOf x .namelist + length (flat (namesOf x))) 0 in
-    let (f, z) = both-true (ltb (length (flat (namesOf x))) (64 * layoutOf x .segments)) (not (eqb c 0)) h in (
-      ltb-true (length (flat (namesOf x))) (64 * layoutOf x .segments) f,
-      names-end x (layoutOf x .namelist) (64 * layoutOf x .segments) (eqb-false c 0 (not-true (eqb c 0) z)),
-    )
+-- 9 by the version
+pub open-recent : (x : List ℕ) (l : Layout) (ns : List (List ℕ)) → v10 (l .version) ≡ false → openName x l ns ≡ unclosed x l ns
+unfolding openName
+open-recent x l ns r = rw (r, openName)
 
-pub full-unclosed : (x : List ℕ) (l : Layout) (ns : List (List ℕ)) → length (flat ns) < 64 * l .segments →
-    (getD x (l .namelist + length (flat ns)) 0 ≡ 0 → ⊥) → unclosed x l ns ≡ true
-full-unclosed x l ns f z = rw (lt-ltb (length (flat ns)) (64 * l .segments) f, ne-eqb (getD x (l .namelist + length (flat ns)) 0) 0 z)
+pub open-10 : (x : List ℕ) (l : Layout) (ns : List (List ℕ)) → v10 (l .version) ≡ true → openName x l ns ≡ unclosedFrom x (l .namelist) (l .segments)
+unfolding openName
+open-10 x l ns r = rw (r, openName)
 
 -- nothing is refused exactly when the names are closed, are at most 1,024, and no two are equal
-pub names-pass : (x : List ℕ) (l : Layout) (ns : List (List ℕ)) → namesTest x l ns ≡ 0 → (unclosed x l ns ≡ false) × (length ns ≤ mostNames) × Distinct ns
+pub names-pass : (x : List ℕ) (l : Layout) (ns : List (List ℕ)) → namesTest x l ns ≡ 0 →
+    (openName x l ns ≡ false) × (length ns ≤ mostNames) × Distinct ns
 unfolding namesTest
 names-pass x l ns h =
     let (a, r) = both _ _ h in
     let (b, c) = both _ _ r in
     (unmet _ 8 a, not-less mostNames (length ns) 9 b, twins-distinct ns (unmet _ 10 c))
 
-pub pass-names : (x : List ℕ) (l : Layout) (ns : List (List ℕ)) → unclosed x l ns ≡ false → length ns ≤ mostNames → Distinct ns → namesTest x l ns ≡ 0
+pub pass-names : (x : List ℕ) (l : Layout) (ns : List (List ℕ)) → openName x l ns ≡ false → length ns ≤ mostNames → Distinct ns → namesTest x l ns ≡ 0
 unfolding namesTest
 pass-names x l ns h f d = none-of _ _ (passed _ 9 h) (none-of _ _ (less-no mostNames (length ns) 10 f) (passed _ 11 (distinct-twins ns d)))
 
 -- each number where it is the first
-pub names-open : (x : List ℕ) (l : Layout) (ns : List (List ℕ)) → unclosed x l ns ≡ true → namesTest x l ns ≡ 9
+pub names-open : (x : List ℕ) (l : Layout) (ns : List (List ℕ)) → openName x l ns ≡ true → namesTest x l ns ≡ 9
 unfolding namesTest _⇒_ _▹_
 names-open x l ns h = rw h
 
-pub names-many : (x : List ℕ) (l : Layout) (ns : List (List ℕ)) → unclosed x l ns ≡ false → mostNames < length ns → namesTest x l ns ≡ 10
+pub names-many : (x : List ℕ) (l : Layout) (ns : List (List ℕ)) → openName x l ns ≡ false → mostNames < length ns → namesTest x l ns ≡ 10
 unfolding namesTest _⇒_ _▹_
 names-many x l ns h f = rw (h, lt-ltb mostNames (length ns) f)
 
-pub names-twins : (x : List ℕ) (l : Layout) (ns : List (List ℕ)) (b : Bool) → unclosed x l ns ≡ false → length ns ≤ mostNames → twins ns ≡ b →
+pub names-twins : (x : List ℕ) (l : Layout) (ns : List (List ℕ)) (b : Bool) → openName x l ns ≡ false → length ns ≤ mostNames → twins ns ≡ b →
     namesTest x l ns ≡ (b ⇒ 11)
 unfolding namesTest _⇒_ _▹_
 names-twins x l ns b h f t = rw (h, le-ltb mostNames (length ns) f, t)
@@ -536,18 +544,3 @@ names-behind x l ns end e =
     go : Dec (length (flat ns) < 64 * l .segments) → ltb end (l .namelist + 64 * l .segments) ≡ ltb (length (flat ns)) (64 * l .segments)
     go (yes h) = lt-ltb end (l .namelist + 64 * l .segments) (omega arith) ∙ sym (lt-ltb (length (flat ns)) (64 * l .segments) h)
     go (no h) = le-ltb end (l .namelist + 64 * l .segments) (omega arith) ∙ sym (le-ltb (length (flat ns)) (64 * l .segments) (omega arith))
-
--- The name list of an image by its parts: who walks the block knows of the list through these laws
-
-pub parts-are : (x : List ℕ) → nameParts x ≡ partsAt x (layoutOf x .namelist) (layoutOf x .namelist) (64 * layoutOf x .segments)
-unfolding nameParts
-parts-are x = refl
-
--- as many names as places
-pub parts-many : (x : List ℕ) → length (nameParts x) ≡ length (namesOf x)
-unfolding namesOf
-parts-many x = sym (length-map (nameParts x) (bytesOf x))
-
--- each lies in the block
-pub parts-within : (x : List ℕ) → Each (Lies x (layoutOf x .namelist) (64 * layoutOf x .segments)) (nameParts x)
-parts-within x = rw (parts-are x) (parts-lie x (layoutOf x .namelist) (64 * layoutOf x .segments))

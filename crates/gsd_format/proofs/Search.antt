@@ -1,24 +1,29 @@
--- Laws of the search by halving: how many entries it probes and which, where it ends, and that in an ordered list it finds
--- what the list has.
+-- Laws of the search: how many entries its halving and its walk probe and which, where they end, and that in a list as 15
+-- leaves it the search finds what the list has.
 use Prim.Native.Nat.{ℕ, zero, suc, _+_, _*_, _-_, _/_, _^_, _≤_, _<_}
 use mathlib.Core.Path.{_≡_, refl, sym, _∙_, ap}
 use mathlib.Core.Logic.{inl, inr}
+use mathlib.Core.Bool.{Bool, true, false}
 use mathlib.Core.List.{List, [], _∷_, _++_}
-use native.Mathlib.Nat.{pow-succ'}
-use native.Mathlib.Decide.{decLt}
+use native.Mathlib.Nat.{add-zero, suc-add, pow-succ'}
+use native.Mathlib.Decide.{ℕ-discrete, decLt}
 use native.Mathlib.Omega.{arith}
-use lib.ListN.{length, getD, length-append}
+use lib.ListN.{length, getD, take, drop, length-append, length-take, length-drop, take-append-drop}
+use lib.Seq.{getD-take, getD-drop}
 use lib.Ieee.Digits.{size-lt}
-use borrow.Author.Tests.{lt-ltb, le-ltb}
+use borrow.Author.Tests.{lt-ltb, le-ltb, eq-eqb, ne-eqb}
 use Rattle.gsd_format.specs.declared.Entry.{Entry}
 use Rattle.gsd_format.specs.declared.Listed.{Listed}
+use Rattle.gsd_format.specs.Header.{v10}
 use Rattle.gsd_format.specs.Entries.{keyOf, key}
 use Rattle.gsd_format.specs.Lookup.{none, findEntry}
-use Rattle.gsd_format.specs.Search.{binaryDigits, Halved, ended, probing, halve, halved, lastProbe, probed, searched}
-use Rattle.gsd_format.specs.Probes.{Belongs}
-use Rattle.gsd_format.proofs.Lists.{Each, Any, each-append, each-so, any-front}
-use Rattle.gsd_format.proofs.Entries.{Ordered, ShortIds, keys-rise}
-use Rattle.gsd_format.proofs.Lookup.{Lacks, it-is, find-end, find-here, find-on, find-at, find-none}
+use Rattle.gsd_format.specs.Search.{binaryDigits, Halved, ended, probing, halve, firstId, lastId, halved}
+use Rattle.gsd_format.specs.Search.{stopped, stepping, Walk, walk, reach, walked, probed, searched}
+use Rattle.gsd_format.specs.Probes.{inFrame, spread, Belongs}
+use Rattle.gsd_format.proofs.Lists.{Each, Any, at-each, at-any, each-append, each-so, any-front, any-back}
+use Rattle.gsd_format.proofs.Entries.{ShortIds, keys-rise}
+use Rattle.gsd_format.proofs.Arranged.{Arranged, leastOf, arranged-ordered, arranged-rise, arranged-once}
+use Rattle.gsd_format.proofs.Lookup.{Lacks, find-end, find-here, find-on, find-none, find-back, find-behind}
 
 -- One step of the halving
 
@@ -155,133 +160,545 @@ module _ (es : List Entry) (least : ℕ) where
   pub halve-ends : (most lo n : ℕ) → n ≤ most → Ends es least lo n (halve most es least lo n)
   halve-ends = by-halves es least (Ends es least) ends-none ends-right ends-left
 
--- The last probe, and what is probed in all
+-- The walk
 
-module _ (frame id : ℕ) (es : List Entry) where
-  abbrev place : ℕ
-  place = halved frame id es .place
+module _ (frame id : ℕ) where
+  module _ (at : ℕ) where
+    pub walk-end : walk frame id at [] ≡ stopped [] (Listed.Refused 42)
+    unfolding walk
+    walk-end = refl
 
-  pub halved-ends : Ends es (keyOf frame id) 0 (length es) (halved frame id es)
-  halved-ends = halve-ends es (keyOf frame id) (length es) 0 (length es) (omega arith)
+    module _ (e : Entry) (es : List Entry) where
+      pub walk-here : e .frame ≡ frame → e .id ≡ id → walk frame id at (e ∷ es) ≡ stopped (at ∷ []) (Listed.Found e)
+      unfolding walk
+      walk-here f d = rw (eq-eqb (e .frame) frame f, eq-eqb (e .id) id d, walk)
 
-  -- where an entry stands at the place it is the last probe, else the halving's are all
-  pub probed-there : place < length es → probed frame id es ≡ halved frame id es .probes ++ place ∷ []
-  unfolding probed lastProbe
-  probed-there l = rw (lt-ltb place (length es) l, lastProbe)
+      pub walk-on : e .frame ≡ frame → (e .id ≡ id → ⊥) → walk frame id at (e ∷ es) ≡ stepping at (walk frame id (at + 1) es)
+      unfolding walk
+      walk-on f d = rw (eq-eqb (e .frame) frame f, ne-eqb (e .id) id d, walk)
 
-  pub probed-end : length es ≤ place → probed frame id es ≡ halved frame id es .probes ++ []
-  unfolding probed lastProbe
-  probed-end l = rw (le-ltb place (length es) l, lastProbe)
+      pub walk-other : (e .frame ≡ frame → ⊥) → walk frame id at (e ∷ es) ≡ stopped (at ∷ []) (Listed.Refused 42)
+      unfolding walk
+      walk-other f = rw (ne-eqb (e .frame) frame f, walk)
 
-  -- what the halving has probed is probed
-  pub probed-halved : (i : ℕ) → Has i (halved frame id es .probes) → Has i (probed frame id es)
+  -- what holds of every walk: of its three ends, and of a step where it holds of the rest
+  by-steps : (P : ℕ → List Entry → Walk → Type 0) →
+      ((at : ℕ) → P at [] (stopped [] (Listed.Refused 42))) →
+      ((at : ℕ) (e : Entry) (es : List Entry) → e .frame ≡ frame → e .id ≡ id → P at (e ∷ es) (stopped (at ∷ []) (Listed.Found e))) →
+      ((at : ℕ) (e : Entry) (es : List Entry) → (e .frame ≡ frame → ⊥) → P at (e ∷ es) (stopped (at ∷ []) (Listed.Refused 42))) →
+      ((at : ℕ) (e : Entry) (es : List Entry) (w : Walk) → e .frame ≡ frame → (e .id ≡ id → ⊥) → P (at + 1) es w → P at (e ∷ es) (stepping at w)) →
+      (es : List Entry) (at : ℕ) → P at es (walk frame id at es)
+  by-steps P end here other on [] at = rw (walk-end at) (end at)
+  by-steps P end here other on (e ∷ es) at =
+      go (by-steps P end here other on es (at + 1)) (ℕ-discrete (e .frame) frame) (ℕ-discrete (e .id) id)
+    where
+      go : P (at + 1) es (walk frame id (at + 1) es) → Dec (e .frame ≡ frame) → Dec (e .id ≡ id) → P at (e ∷ es) (walk frame id at (e ∷ es))
+      go r (yes f) (yes d) = rw (walk-here at e es f d) (here at e es f d)
+      go r (yes f) (no d) = rw (walk-on at e es f d) (on at e es _ f d r)
+      go r (no f) d = rw (walk-other at e es f) (other at e es f)
+
+  -- it probes one entry after the other
+  pub walk-numbers : (es : List Entry) (at k : ℕ) → k < length (walk frame id at es .probes) → getD (walk frame id at es .probes) k 0 ≡ at + k
+  walk-numbers = by-steps (λ at es w. (k : ℕ) → k < length (w .probes) → getD (w .probes) k 0 ≡ at + k)
+      (λ at k l. absurd (omega arith)) (λ at e es f d. one at) (λ at e es f. one at) (λ at e es w f d. more at w)
+    where
+      one : (at k : ℕ) → k < 1 → getD (at ∷ []) k 0 ≡ at + k
+      one at zero l = sym (add-zero at)
+      one at (suc k) l = absurd (omega arith)
+
+      more : (at : ℕ) (w : Walk) → ((k : ℕ) → k < length (w .probes) → getD (w .probes) k 0 ≡ at + 1 + k) →
+          (k : ℕ) → k < suc (length (w .probes)) → getD (at ∷ w .probes) k 0 ≡ at + k
+      more at w r zero l = sym (add-zero at)
+      more at w r (suc k) l = r k (omega arith) ∙ (let q : at + 1 + k ≡ at + suc k = omega arith in q)
+
+  -- of the entries, and at most one that is not of the frame
+  pub walk-most : (es : List Entry) (at : ℕ) → length (walk frame id at es .probes) ≤ length es
+  walk-most = by-steps (λ at es w. length (w .probes) ≤ length es)
+      (λ at. omega arith) (λ at e es f d. omega arith) (λ at e es f. omega arith) (λ at e es w f d r. omega arith)
+
+  in-frame : (e : Entry) (es : List Entry) → e .frame ≡ frame → inFrame frame (e ∷ es) ≡ suc (inFrame frame es)
+  unfolding inFrame
+  in-frame e es f = rw (eq-eqb (e .frame) frame f, inFrame)
+
+  in-other : (e : Entry) (es : List Entry) → (e .frame ≡ frame → ⊥) → inFrame frame (e ∷ es) ≡ inFrame frame es
+  unfolding inFrame
+  in-other e es f = rw (ne-eqb (e .frame) frame f, inFrame)
+
+  in-none : inFrame frame [] ≡ 0
+  unfolding inFrame
+  in-none = refl
+
+  in-lacking : (es : List Entry) → ((i : ℕ) → i < length es → getD es i none .frame ≡ frame → ⊥) → inFrame frame es ≡ 0
+  in-lacking [] h = in-none
+  in-lacking (e ∷ es) h = in-other e es (h 0 (omega arith)) ∙ in-lacking es (λ i l. h (suc i) (omega arith))
+
+  in-most : (es : List Entry) → inFrame frame es ≤ length es
+  in-most [] = omega (arith, in-none)
+  in-most (e ∷ es) = go (in-most es) (ℕ-discrete (e .frame) frame)
+    where
+      go : inFrame frame es ≤ length es → Dec (e .frame ≡ frame) → inFrame frame (e ∷ es) ≤ suc (length es)
+      go r (yes f) = omega (arith, in-frame e es f)
+      go r (no f) = omega (arith, in-other e es f)
+
+  in-append : (a b : List Entry) → inFrame frame (a ++ b) ≡ inFrame frame a + inFrame frame b
+  in-append [] b = omega (arith, in-none)
+  in-append (e ∷ a) b = go (in-append a b) (ℕ-discrete (e .frame) frame)
+    where
+      go : inFrame frame (a ++ b) ≡ inFrame frame a + inFrame frame b → Dec (e .frame ≡ frame) →
+          inFrame frame (e ∷ a ++ b) ≡ inFrame frame (e ∷ a) + inFrame frame b
+      go r (yes f) = omega (arith, in-frame e (a ++ b) f, in-frame e a f)
+      go r (no f) = omega (arith, in-other e (a ++ b) f, in-other e a f)
+
+  in-parts : (p : ℕ) (es : List Entry) → inFrame frame es ≡ inFrame frame (take p es) + inFrame frame (drop p es)
+  in-parts p es = ap (inFrame frame) (sym (take-append-drop p es)) ∙ in-append (take p es) (drop p es)
+
+  pub walk-few : (es : List Entry) (at : ℕ) → length (walk frame id at es .probes) ≤ inFrame frame es + 1
+  walk-few = by-steps (λ at es w. length (w .probes) ≤ inFrame frame es + 1)
+      (λ at. omega arith) (λ at e es f d. omega arith) (λ at e es f. omega arith) (λ at e es w f d r. omega (arith, in-frame e es f))
+
+  -- entries that the walk passes: of the frame, with another id
+  abbrev pub Passes : List Entry → ℕ → Type 0
+  Passes es k = (i : ℕ) → i < k → (getD es i none .frame ≡ frame) × (getD es i none .id ≡ id → ⊥)
+
+  -- behind k of them it goes on with the rest
+  pub walk-passes : (k : ℕ) (es : List Entry) (at : ℕ) → k ≤ length es → Passes es k →
+      (walk frame id at es .answer ≡ walk frame id (at + k) (drop k es) .answer)
+      × (length (walk frame id at es .probes) ≡ k + length (walk frame id (at + k) (drop k es) .probes))
+  walk-passes zero es at l p = rw add-zero (refl, omega arith)
+  walk-passes (suc k) [] at l p = absurd (omega arith)
+  walk-passes (suc k) (e ∷ es) at l p =
+      let on = walk-on at e es (p 0 (omega arith) .0) (p 0 (omega arith) .1) in
+      let rest = walk-passes k es (at + 1) (omega arith) (λ i u. p (suc i) (omega arith)) in
+      let q : at + 1 + k ≡ at + suc k = omega arith in (
+        ap (λ w. w .answer) on ∙ rest .0 ∙ ap (λ n. walk frame id n (drop k es) .answer) q,
+        ap (λ w. length (w .probes)) on ∙ ap suc (rest .1 ∙ ap (λ n. k + length (walk frame id n (drop k es) .probes)) q)
+            ∙ sym (suc-add k (length (walk frame id (at + suc k) (drop k es) .probes))),
+      )
+
+  walk-some : (es : List Entry) (at : ℕ) → 0 < length es → 0 < length (walk frame id at es .probes)
+  walk-some = by-steps (λ at es w. 0 < length es → 0 < length (w .probes))
+      (λ at l. l) (λ at e es f d l. omega arith) (λ at e es f l. omega arith) (λ at e es w f d r l. omega arith)
+
+  -- and reads the next, if there is one
+  pub walk-reads : (es : List Entry) (at k : ℕ) → k < length es → Passes es k → k < length (walk frame id at es .probes)
+  walk-reads es at k l p =
+      omega (arith, walk-passes k es at (omega arith) p .1, walk-some (drop k es) (at + k) (omega (arith, length-drop k es)))
+
+  -- Entries of the frame stand together
+
+  abbrev pub Together : List Entry → Type 0
+  Together es = (i j : ℕ) → i < j → j < length es → getD es j none .frame ≡ frame → getD es i none .frame ≡ frame
+
+  together-tail : (e : Entry) (es : List Entry) → Together (e ∷ es) → Together es
+  together-tail e es t i j l u = t (suc i) (suc j) (omega arith) (omega arith)
+
+  -- so the walk finds what the list has
+  pub walk-finds : (es : List Entry) (at : ℕ) → Together es → walk frame id at es .answer ≡ findEntry frame id es
+  walk-finds = by-steps (λ at es w. Together es → w .answer ≡ findEntry frame id es)
+      (λ at t. sym (find-end frame id)) (λ at e es f d t. sym (find-here frame id e es f d)) other
+      (λ at e es w f d r t. r (together-tail e es t) ∙ sym (find-on frame id e es (λ g. d)))
+    where
+      other : (at : ℕ) (e : Entry) (es : List Entry) → (e .frame ≡ frame → ⊥) → Together (e ∷ es) → Listed.Refused 42 ≡ findEntry frame id (e ∷ es)
+      other at e es f t = sym (find-none frame id (e ∷ es) lacks)
+        where
+          lacks : Lacks (e ∷ es) frame id
+          lacks zero l g d = f g
+          lacks (suc i) l g d = f (t 0 (suc i) (omega arith) l g)
+
+  -- the frame's entries are the first so many
+  pub together-first : (es : List Entry) → Together es → (i : ℕ) → i < length es →
+      (i < inFrame frame es → getD es i none .frame ≡ frame) × (inFrame frame es ≤ i → getD es i none .frame ≡ frame → ⊥)
+  together-first [] t i l = absurd (omega arith)
+  together-first (e ∷ es) t i l = go (together-first es (together-tail e es t)) (ℕ-discrete (e .frame) frame) i l
+    where
+      none-behind : (e .frame ≡ frame → ⊥) → inFrame frame (e ∷ es) ≡ 0
+      none-behind f = in-lacking (e ∷ es) (elim [ zero ↦ λ u. f | suc i ↦ λ u g. f (t 0 (suc i) (omega arith) u g) ])
+
+      go : ((i : ℕ) → i < length es → (i < inFrame frame es → getD es i none .frame ≡ frame) × (inFrame frame es ≤ i →
+          getD es i none .frame ≡ frame → ⊥)) →
+          Dec (e .frame ≡ frame) → (i : ℕ) → i < length (e ∷ es) →
+          (i < inFrame frame (e ∷ es) → getD (e ∷ es) i none .frame ≡ frame) × (inFrame frame (e ∷ es) ≤ i → getD (e ∷ es) i none .frame ≡ frame → ⊥)
+      go r (yes f) zero l = (λ u. f, λ u g. omega (arith, in-frame e es f))
+      go r (yes f) (suc i) l = (
+        λ u. r i (omega arith) .0 (omega (arith, in-frame e es f)),
+        λ u. r i (omega arith) .1 (omega (arith, in-frame e es f)),
+      )
+      go r (no f) zero l = (λ u. absurd (omega (arith, none-behind f)), λ u. f)
+      go r (no f) (suc i) l = (λ u. absurd (omega (arith, none-behind f)), λ u g. f (t 0 (suc i) (omega arith) l g))
+
+-- By the version
+
+module _ (version : ℕ) (is : v10 version ≡ true) where
+  pub first-10 : (id : ℕ) → firstId version id ≡ 0
+  unfolding firstId
+  first-10 id = rw (is, firstId)
+
+  pub last-10 : (id : ℕ) → lastId version id ≡ 65535
+  unfolding lastId
+  last-10 id = rw (is, lastId)
+
+  pub reach-10 : (es : List Entry) → reach version es ≡ es
+  unfolding reach
+  reach-10 es = rw (is, reach)
+
+  pub spread-10 : (frame : ℕ) (es : List Entry) → spread version frame es ≡ inFrame frame es
+  unfolding spread
+  spread-10 frame es = rw (is, spread)
+
+module _ (version : ℕ) (recent : v10 version ≡ false) where
+  pub first-recent : (id : ℕ) → firstId version id ≡ id
+  unfolding firstId
+  first-recent id = rw (recent, firstId)
+
+  pub last-recent : (id : ℕ) → lastId version id ≡ id
+  unfolding lastId
+  last-recent id = rw (recent, lastId)
+
+  pub reach-recent : (es : List Entry) → reach version es ≡ take 1 es
+  unfolding reach
+  reach-recent es = rw (recent, reach)
+
+  pub spread-recent : (frame : ℕ) (es : List Entry) → spread version frame es ≡ 0
+  unfolding spread
+  spread-recent frame es = rw (recent, spread)
+
+-- no more stand where it would than there are entries
+pub spread-most : (version frame : ℕ) (es : List Entry) → spread version frame es ≤ length es
+spread-most version frame es = go (v10 version) refl
+  where
+    go : (v : Bool) → v10 version ≡ v → spread version frame es ≤ length es
+    go true r = omega (arith, spread-10 version r frame es, in-most frame 0 es)
+    go false r = omega (arith, spread-recent version r frame es)
+
+-- what is sought is not before the first that it could be
+pub first-low : (version id : ℕ) → firstId version id ≤ id
+first-low version id = go (v10 version) refl
+  where
+    go : (v : Bool) → v10 version ≡ v → firstId version id ≤ id
+    go true r = rw (first-10 version r id) (omega arith)
+    go false r = rw (first-recent version r id) (omega arith)
+
+-- The walk has no more before it than the entries from the place on
+pub reach-most : (version : ℕ) (es : List Entry) → length (reach version es) ≤ length es
+reach-most version es = go (v10 version) refl
+  where
+    go : (v : Bool) → v10 version ≡ v → length (reach version es) ≤ length es
+    go true r = rw (reach-10 version r es) (omega arith)
+    go false r = rw (reach-recent version r es) (omega (arith, length-take 1 es))
+
+pub reach-at : (version : ℕ) (es : List Entry) (i : ℕ) → i < length (reach version es) → getD (reach version es) i none ≡ getD es i none
+reach-at version es i l = go (v10 version) refl
+  where
+    go : (v : Bool) → v10 version ≡ v → getD (reach version es) i none ≡ getD es i none
+    go true r = ap (λ r. getD r i none) (reach-10 version r es)
+    go false r =
+        let q = reach-recent version r es in
+        ap (λ r. getD r i none) q ∙ getD-take 1 es i none (omega (arith, ap length q, length-take 1 es))
+
+-- The search in all
+
+module _ (version frame id : ℕ) (es : List Entry) where
+  abbrev pub place : ℕ
+  place = halved version frame id es .place
+
+  abbrev pub aim : ℕ
+  aim = keyOf frame (firstId version id)
+
+  -- the entries from the place on, and those of them that the walk may read
+  abbrev pub rest : List Entry
+  rest = drop place es
+
+  abbrev pub ahead : List Entry
+  ahead = reach version rest
+
+  pub halved-ends : Ends es aim 0 (length es) (halved version frame id es)
+  halved-ends = halve-ends es aim (length es) 0 (length es) (omega arith)
+
+  rest-length : length rest ≡ length es - place
+  rest-length = length-drop place es
+
+  -- what is probed
+  pub probed-parts : probed version frame id es ≡ halved version frame id es .probes ++ walked version frame id es .probes
   unfolding probed
-  probed-halved i h = any-front (λ j. j ≡ i) (halved frame id es .probes) _ h
+  probed-parts = refl
+
+  pub searched-walks : searched version frame id es ≡ walk frame id place ahead .answer
+  unfolding searched
+  searched-walks = refl
+
+  pub probed-halved : (i : ℕ) → Has i (halved version frame id es .probes) → Has i (probed version frame id es)
+  probed-halved i h = rw probed-parts (any-front (λ j. j ≡ i) (halved version frame id es .probes) _ h)
+
+  -- what the walk reads of the entries ahead
+  probed-walk : (k : ℕ) → k < length (walk frame id place ahead .probes) → Has (place + k) (probed version frame id es)
+  probed-walk k l =
+      rw probed-parts (any-back (λ j. j ≡ place + k) (halved version frame id es .probes) _
+      (at-any (λ j. j ≡ place + k) (walk frame id place ahead .probes) 0 k l (walk-numbers frame id ahead place k l)))
 
   -- only entries are probed
-  pub probed-within : Each (λ i. i < length es) (probed frame id es)
-  probed-within = go (decLt place (length es))
+  pub probed-within : Each (λ i. i < length es) (probed version frame id es)
+  probed-within =
+      rw probed-parts (each-append _ (halved version frame id es .probes) _
+      (each-so (λ i. i < 0 + length es) (λ i. i < length es) (λ i u. omega arith) (halved version frame id es .probes) (halved-ends .within))
+      (at-each (λ i. i < length es) (walk frame id place ahead .probes) 0 (λ k l.
+      omega (arith, walk-numbers frame id ahead place k l, walk-most frame id ahead place, reach-most version rest, rest-length))))
+
+  -- at most one more than the number of entries has binary digits, and in 1.0 those of the frame
+  pub probed-few : length (probed version frame id es) ≤ binaryDigits (length es) + 1 + spread version frame es
+  probed-few =
+      omega (
+        arith,
+        ap length probed-parts,
+        length-append (halved version frame id es .probes) (walk frame id place ahead .probes),
+        halve-few es aim (length es) 0 (length es) (binaryDigits (length es)) (omega arith) (size-lt (length es)),
+        go (v10 version) refl,
+      )
     where
-      within : Each (λ i. i < length es) (halved frame id es .probes)
-      within = each-so (λ i. i < 0 + length es) (λ i. i < length es) (λ i u. omega arith) (halved frame id es .probes) (halved-ends .within)
+      go : (v : Bool) → v10 version ≡ v → length (walk frame id place ahead .probes) ≤ 1 + spread version frame es
+      go true r =
+          omega (
+            arith,
+            walk-few frame id ahead place,
+            ap (inFrame frame) (reach-10 version r rest),
+            in-parts frame id place es,
+            spread-10 version r frame es,
+          )
+      go false r = omega (arith, walk-most frame id ahead place, ap length (reach-recent version r rest), length-take 1 rest)
 
-      go : Dec (place < length es) → Each (λ i. i < length es) (probed frame id es)
-      go (yes l) = rw (probed-there l) (each-append _ (halved frame id es .probes) (place ∷ []) within (l, tt))
-      go (no l) = rw (probed-end (omega arith)) (each-append _ (halved frame id es .probes) [] within tt)
+  -- In a list as 15 leaves it, with ids of 16 bits
 
-  -- at most one more than the number of entries has binary digits
-  pub probed-few : length (probed frame id es) ≤ binaryDigits (length es) + 1
-  probed-few = go (decLt place (length es))
-    where
-      few : length (halved frame id es .probes) ≤ binaryDigits (length es)
-      few = halve-few es (keyOf frame id) (length es) 0 (length es) (binaryDigits (length es)) (omega arith) (size-lt (length es))
-
-      go : Dec (place < length es) → length (probed frame id es) ≤ binaryDigits (length es) + 1
-      go (yes l) = rw (probed-there l, length-append (halved frame id es .probes) (place ∷ [])) (omega (arith, few))
-      go (no l) = rw (probed-end (omega arith), length-append (halved frame id es .probes) []) (omega (arith, few))
-
-  -- What is found
-
-  pub searched-end : length es ≤ place → searched frame id es ≡ Listed.Refused 42
-  unfolding searched
-  searched-end l = rw (le-ltb place (length es) l, searched)
-
-  pub searched-there : place < length es → searched frame id es ≡ findEntry frame id (getD es place none ∷ [])
-  unfolding searched
-  searched-there l = rw (lt-ltb place (length es) l, searched)
-
-  -- in a list in order
-  module _ (ordered : Ordered 0 es) where
-    rise : (i j : ℕ) → i ≤ j → j < length es → key (getD es i none) ≤ key (getD es j none)
-    rise i j l u = go (decLt i j)
+  module _ (arranged : Arranged version [] es) (ids : ShortIds es) (short : id < 65536) where
+    -- where an entry is below what is sought, so are those before it
+    lower : (i j : ℕ) → i ≤ j → j < length es → key (getD es j none) < aim → key (getD es i none) < aim
+    unfolding leastOf
+    lower i j l u b = go (v10 version) refl (decLt i j)
       where
-        go : Dec (i < j) → key (getD es i none) ≤ key (getD es j none)
-        go (yes a) = omega (arith, keys-rise es 0 ordered i j a u)
-        go (no a) = let q : i ≡ j = omega arith in rw q (omega arith)
+        go : (v : Bool) → v10 version ≡ v → Dec (i < j) → key (getD es i none) < aim
+        go true r d = omega (arith, first-10 version r id, arranged-rise version es [] arranged ids i j l u, ids i (omega arith))
+        go false r (yes a) = omega (arith, keys-rise es 0 (arranged-ordered es version [] r .0 arranged) i j a u)
+        go false r (no a) = let q : i ≡ j = omega arith in rw q b
 
-    -- the entries before the place are below the frame and the id, those from it on are not
-    pub place-before : (i : ℕ) → i < place → key (getD es i none) < keyOf frame id
-    place-before i l = omega (arith, halved-ends .below (omega arith), rise i (place - 1) (omega arith) (omega (arith, halved-ends .high)))
+    -- the entries before the place are below, those from it on are not
+    pub place-before : (i : ℕ) → i < place → key (getD es i none) < aim
+    place-before i l = lower i (place - 1) (omega arith) (omega (arith, halved-ends .high)) (halved-ends .below (omega arith))
 
-    pub place-behind : (i : ℕ) → place ≤ i → i < length es → keyOf frame id ≤ key (getD es i none)
-    place-behind i l u = omega (arith, halved-ends .above (omega arith), rise place i l u)
-
-    -- an entry with the frame and the id stands there
-    pub only-there : (i : ℕ) → i < length es → getD es i none .frame ≡ frame → getD es i none .id ≡ id → i ≡ place
-    only-there i l f d = go (decLt i place) (decLt place i)
+    pub place-behind : (i : ℕ) → place ≤ i → i < length es → aim ≤ key (getD es i none)
+    place-behind i l u = go (decLt (key (getD es i none)) aim)
       where
-        go : Dec (i < place) → Dec (place < i) → i ≡ place
-        go (yes a) b = absurd (omega (arith, place-before i a))
-        go (no a) (yes b) = absurd (omega (arith, place-behind place (omega arith) (omega arith), keys-rise es 0 ordered place i b l))
-        go (no a) (no b) = omega arith
+        go : Dec (key (getD es i none) < aim) → aim ≤ key (getD es i none)
+        go (yes b) = absurd (omega (arith, halved-ends .above (omega arith), lower place i l u b))
+        go (no b) = omega arith
+
+    -- an entry with the frame and the id stands from the place on
+    pub not-before : (i : ℕ) → i < length es → getD es i none .frame ≡ frame → getD es i none .id ≡ id → place ≤ i
+    not-before i l f d = go (decLt i place)
+      where
+        go : Dec (i < place) → place ≤ i
+        go (yes a) = absurd (omega (arith, place-before i a, first-low version id))
+        go (no a) = omega arith
+
+    rest-at : (i : ℕ) → getD rest i none ≡ getD es (place + i) none
+    rest-at i = getD-drop place es i none
+
+    rest-is : (i : ℕ) → place ≤ i → getD rest (i - place) none ≡ getD es i none
+    rest-is i l = rest-at (i - place) ∙ ap (λ j. getD es j none) (let q : place + (i - place) ≡ i = omega arith in q)
+
+    -- 1.0: from the place on no frame is below, so the frame's entries stand together there
+    rest-frame : v10 version ≡ true → (i : ℕ) → i < length rest → frame ≤ getD rest i none .frame
+    rest-frame r i l =
+        let u : place + i < length es = omega (arith, rest-length) in
+        omega (arith, ap (λ e. e .frame) (rest-at i), place-behind (place + i) (omega arith) u, first-10 version r id, ids (place + i) u)
+
+    rest-rise : (i j : ℕ) → i ≤ j → j < length rest → getD rest i none .frame ≤ getD rest j none .frame
+    rest-rise i j l u =
+        omega (
+          arith,
+          ap (λ e. e .frame) (rest-at i),
+          ap (λ e. e .frame) (rest-at j),
+          arranged-rise version es [] arranged ids (place + i) (place + j) (omega arith) (omega (arith, rest-length)),
+        )
+
+    rest-together : v10 version ≡ true → Together frame id rest
+    rest-together r i j l u f = omega (arith, rest-frame r i (omega arith), rest-rise i j (omega arith) u)
+
+    ahead-together : Together frame id ahead
+    ahead-together i j l u f = go (v10 version) refl
+      where
+        go : (v : Bool) → v10 version ≡ v → getD ahead i none .frame ≡ frame
+        go true r =
+            let q : ahead ≡ rest = reach-10 version r rest in
+            ap (λ es. getD es i none .frame) q
+            ∙ rest-together r i j l (omega (arith, ap length q)) (sym (ap (λ es. getD es j none .frame) q) ∙ f)
+        go false r = absurd (omega (arith, ap length (reach-recent version r rest), length-take 1 rest))
+
+    -- what the walk may not read has another frame or id: 2.x has one entry that is not below, and the keys behind it are above it
+    only-first : v10 version ≡ false → (i : ℕ) → 0 < i → i < length rest → getD rest i none .frame ≡ frame → getD rest i none .id ≡ id → ⊥
+    unfolding leastOf
+    only-first r i l u f d =
+        let e : getD rest i none ≡ getD es (place + i) none = rest-at i in
+        let rises : key (getD es place none) < key (getD es (place + i) none) =
+        keys-rise es 0 (arranged-ordered es version [] r .0 arranged) place (place + i) (omega arith) (omega (arith, rest-length)) in
+        omega (
+          arith,
+          ap (λ e. e .frame) e,
+          ap (λ e. e .id) e,
+          rises,
+          place-behind place (omega arith) (omega (arith, rest-length)),
+          first-recent version r id,
+        )
+
+    ahead-finds : findEntry frame id ahead ≡ findEntry frame id rest
+    ahead-finds = go (v10 version) refl
+      where
+        go : (v : Bool) → v10 version ≡ v → findEntry frame id ahead ≡ findEntry frame id rest
+        go true r = ap (findEntry frame id) (reach-10 version r rest)
+        go false r =
+            ap (findEntry frame id) (reach-recent version r rest)
+            ∙ sym (find-back frame id (take 1 rest) (drop 1 rest) (λ i l f d.
+            let q = getD-drop 1 rest i none in
+            only-first r (1 + i) (omega arith) (omega (arith, length-drop 1 rest)) (sym (ap (λ e. e .frame) q) ∙ f) (sym (ap (λ e. e .id) q) ∙ d)))
+            ∙ ap (findEntry frame id) (take-append-drop 1 rest)
 
     -- so the search finds what the list has
-    pub searched-finds : searched frame id es ≡ findEntry frame id es
-    searched-finds = go (decLt place (length es)) (it-is frame id (getD es place none))
+    pub searched-finds : searched version frame id es ≡ findEntry frame id es
+    searched-finds =
+        searched-walks ∙ walk-finds frame id ahead place ahead-together ∙ ahead-finds
+        ∙ sym (find-behind frame id (take place es) rest lacks) ∙ ap (findEntry frame id) (take-append-drop place es)
       where
-        lacks : (place < length es → getD es place none .frame ≡ frame → getD es place none .id ≡ id → ⊥) → Lacks es frame id
-        lacks n i l f d =
-            let q : i ≡ place = only-there i l f d in
-            n (rw q at l) (ap (λ j. getD es j none .frame) (sym q) ∙ f) (ap (λ j. getD es j none .id) (sym q) ∙ d)
-
-        go : Dec (place < length es) → Dec ((getD es place none .frame ≡ frame) × (getD es place none .id ≡ id)) →
-            searched frame id es ≡ findEntry frame id es
-        go (no l) d = searched-end (omega arith) ∙ sym (find-none frame id es (lacks (λ u. absurd (l u))))
-        go (yes l) (yes p) =
-            searched-there l ∙ find-here frame id _ [] (p .0) (p .1)
-            ∙ sym (find-at frame id es place l (p .0) (p .1) (λ j u f d. omega (arith, only-there j (omega arith) f d)))
-        go (yes l) (no p) =
-            searched-there l ∙ find-on frame id _ [] (λ f d. p (f, d)) ∙ find-end frame id ∙ sym (find-none frame id es (lacks (λ u f d. p (f, d))))
+        lacks : Lacks (take place es) frame id
+        lacks i l f d =
+            let u : i < place = omega (arith, length-take place es) in
+            let e : getD (take place es) i none ≡ getD es i none = getD-take place es i none u in
+            omega (
+              arith,
+              not-before i (omega (arith, length-take place es)) (sym (ap (λ e. e .frame) e) ∙ f) (sym (ap (λ e. e .id) e) ∙ d),
+            )
 
     -- the entry that is found was probed
-    pub probed-found : (i : ℕ) → i < length es → getD es i none .frame ≡ frame → getD es i none .id ≡ id → Has i (probed frame id es)
-    probed-found i l f d = let q : i ≡ place = only-there i l f d in rw q (probed-halved place (halved-ends .next (omega arith)))
-
-    -- where no entry has the frame and the id they belong at the place; ids have 16 bits, so that a key is of one frame and one id
-    pub place-belongs : ShortIds es → id < 65536 → Lacks es frame id → Belongs frame id es place
-    place-belongs ids short lacks = record { high = omega (arith, halved-ends .high); before = place-before; behind = behind }
+    pub probed-found : (i : ℕ) → i < length es → getD es i none .frame ≡ frame → getD es i none .id ≡ id → Has i (probed version frame id es)
+    probed-found i l f d = rw (let q : i ≡ place + (i - place) = omega (arith, low) in q) (probed-walk (i - place) (go (v10 version) refl))
       where
-        behind : (i : ℕ) → place ≤ i → i < length es → keyOf frame id < key (getD es i none)
-        behind i l u = go (decLt (keyOf frame id) (key (getD es i none)))
+        low : place ≤ i
+        low = not-before i l f d
+
+        there : getD rest (i - place) none ≡ getD es i none
+        there = rest-is i low
+
+        inside : i - place < length rest
+        inside = omega (arith, low, rest-length)
+
+        go : (v : Bool) → v10 version ≡ v → i - place < length (walk frame id place ahead .probes)
+        go true r = rw (reach-10 version r rest) (walk-reads frame id rest place (i - place) inside (λ j u.
+            let same : getD rest j none .frame ≡ frame =
+            omega (arith, rest-frame r j (omega (arith, inside)), rest-rise j (i - place) (omega arith) inside, ap (λ e. e .frame) there) in
+            let e : getD rest j none ≡ getD es (place + j) none = rest-at j in (
+              same,
+              λ c. omega (
+                arith,
+                low,
+                arranged-once version es [] arranged (place + j) i (omega arith) l
+                    (sym (ap (λ e. e .frame) e) ∙ same ∙ sym f) (sym (ap (λ e. e .id) e) ∙ c ∙ sym d),
+              ),
+            )))
+        go false r = alone (decLt 0 (i - place))
           where
-            go : Dec (keyOf frame id < key (getD es i none)) → keyOf frame id < key (getD es i none)
-            go (yes a) = a
-            go (no a) =
-                let same : key (getD es i none) ≡ keyOf frame id = omega (arith, place-behind i l u) in
-                absurd (lacks i u (omega (arith, ids i u)) (omega (arith, ids i u)))
+            alone : Dec (0 < i - place) → i - place < length (walk frame id place ahead .probes)
+            alone (yes u) = absurd (only-first r (i - place) u inside (ap (λ e. e .frame) there ∙ f) (ap (λ e. e .id) there ∙ d))
+            alone (no u) =
+                omega (arith, walk-some frame id ahead place (omega (arith, inside, ap length (reach-recent version r rest), length-take 1 rest)))
 
-  -- and the entries next to the place were probed
-  pub probed-next : place < length es → Has place (probed frame id es)
-  probed-next l = probed-halved place (halved-ends .next (omega arith))
+    -- Where no entry has the frame and the id
 
-  pub probed-before : 0 < place → Has (place - 1) (probed frame id es)
+    module _ (lacks : Lacks es frame id) where
+      -- 1.0: the frame's entries are the first from the place on
+      frame-rest : v10 version ≡ true → inFrame frame rest ≡ spread version frame es
+      frame-rest r =
+          omega (
+            arith,
+            spread-10 version r frame es,
+            in-parts frame id place es,
+            in-lacking frame id (take place es) (λ i l f.
+                let u : i < place = omega (arith, length-take place es) in
+                omega (arith, sym (ap (λ e. e .frame) (getD-take place es i none u)) ∙ f, place-before i u, first-10 version r id)),
+          )
+
+      spread-high : place + spread version frame es ≤ length es
+      spread-high = go (v10 version) refl
+        where
+          go : (v : Bool) → v10 version ≡ v → place + spread version frame es ≤ length es
+          go true r = omega (arith, frame-rest r, in-most frame id rest, rest-length, halved-ends .high)
+          go false r = omega (arith, spread-recent version r frame es, halved-ends .high)
+
+      spread-frame : (i : ℕ) → place ≤ i → i < place + spread version frame es → getD es i none .frame ≡ frame
+      spread-frame i l u = go (v10 version) refl
+        where
+          go : (v : Bool) → v10 version ≡ v → getD es i none .frame ≡ frame
+          go true r =
+              sym (ap (λ e. e .frame) (rest-is i l))
+              ∙ together-first frame id rest (rest-together r) (i - place) (omega (arith, rest-length, spread-high)) .0 (omega (arith, frame-rest r))
+          go false r = absurd (omega (arith, spread-recent version r frame es))
+
+      -- they belong there; ids have 16 bits, so that a key is of one frame and one id
+      pub place-belongs : Belongs version frame id es place (spread version frame es)
+      place-belongs = record { high = spread-high; before = place-before; inside = spread-frame; behind = λ i l u. behind i l u (v10 version) refl }
+        where
+          behind : (i : ℕ) → place + spread version frame es ≤ i → i < length es → (v : Bool) → v10 version ≡ v →
+              keyOf frame (lastId version id) < key (getD es i none)
+          behind i l u true r =
+              let j : ℕ = i - place in
+              let e : getD rest j none ≡ getD es i none = rest-is i (omega arith) in
+              let w : j < length rest = omega (arith, rest-length) in
+              let n : (getD rest j none .frame ≡ frame → ⊥) = together-first frame id rest (rest-together r) j w .1 (omega (arith, frame-rest r)) in
+              omega (arith, ap (λ e. e .frame) e, rest-frame r j w, n, last-10 version r id)
+          behind i l u false r = go (decLt (keyOf frame id) (key (getD es i none)))
+            where
+              go : Dec (keyOf frame id < key (getD es i none)) → keyOf frame (lastId version id) < key (getD es i none)
+              go (yes a) = rw (last-recent version r id) a
+              go (no a) =
+                  let same : key (getD es i none) ≡ keyOf frame id = omega (arith, place-behind i (omega arith) u, first-recent version r id) in
+                  absurd (lacks i u (omega (arith, ids i u)) (omega (arith, ids i u)))
+
+      -- and are probed, with those next to them
+      pub probed-around : (i : ℕ) → place ≤ i → i ≤ place + spread version frame es → i < length es → Has i (probed version frame id es)
+      probed-around i l m u = rw (let q : i ≡ place + (i - place) = omega arith in q) (probed-walk (i - place) (go (v10 version) refl))
+        where
+          go : (v : Bool) → v10 version ≡ v → i - place < length (walk frame id place ahead .probes)
+          go true r = rw (reach-10 version r rest) (walk-reads frame id rest place (i - place) (omega (arith, rest-length)) (λ j v.
+              let e : getD rest j none ≡ getD es (place + j) none = rest-at j in
+              let f : getD es (place + j) none .frame ≡ frame = spread-frame (place + j) (omega arith) (omega arith) in
+              (ap (λ e. e .frame) e ∙ f, λ d. lacks (place + j) (omega arith) f (sym (ap (λ e. e .id) e) ∙ d))))
+          go false r =
+              omega (
+                arith,
+                spread-recent version r frame es,
+                walk-some frame id ahead place (omega (arith, rest-length, ap length (reach-recent version r rest), length-take 1 rest)),
+              )
+
+  pub probed-before : 0 < place → Has (place - 1) (probed version frame id es)
   probed-before l = probed-halved (place - 1) (halved-ends .before l)
 
 -- they belong at one place only
-pub belongs-one : (frame id : ℕ) (es : List Entry) (p q : ℕ) → Belongs frame id es p → Belongs frame id es q → p ≡ q
-belongs-one frame id es p q a b = go (decLt p q) (decLt q p)
-  where
-    go : Dec (p < q) → Dec (q < p) → p ≡ q
-    go (yes l) u = absurd (omega (arith, b .before p l, a .behind p (omega arith) (omega (arith, b .high))))
-    go (no l) (yes u) = absurd (omega (arith, a .before q u, b .behind q (omega arith) (omega (arith, a .high))))
-    go (no l) (no u) = omega arith
+module _ (version frame id : ℕ) (es : List Entry) where
+  no-later : (p q : ℕ) → Belongs version frame id es p (spread version frame es) → Belongs version frame id es q (spread version frame es) → p < q → ⊥
+  no-later p q a b l = go (v10 version) refl (decLt 0 (spread version frame es))
+    where
+      go : (v : Bool) → v10 version ≡ v → Dec (0 < spread version frame es) → ⊥
+      go true r (yes s) = omega (arith, b .before p l, a .inside p (omega arith) (omega arith), first-10 version r id)
+      go true r (no s) = omega (arith, b .before p l, a .behind p (omega arith) (omega (arith, b .high)), first-10 version r id)
+      go false r s =
+          omega (
+            arith,
+            b .before p l,
+            a .behind p (omega (arith, spread-recent version r frame es)) (omega (arith, b .high)),
+            first-recent version r id,
+            last-recent version r id,
+          )
+
+  pub belongs-one : (p q : ℕ) → Belongs version frame id es p (spread version frame es) → Belongs version frame id es q (spread version frame es) →
+      p ≡ q
+  belongs-one p q a b = go (decLt p q) (decLt q p)
+    where
+      go : Dec (p < q) → Dec (q < p) → p ≡ q
+      go (yes l) u = absurd (no-later p q a b l)
+      go (no l) (yes u) = absurd (no-later q p b a u)
+      go (no l) (no u) = omega arith

@@ -1,7 +1,7 @@
 -- Laws of opening: the verdict is 0 exactly when each test's fact holds, and what the tests depend on.
 use Prim.Native.Nat.{ℕ, zero, suc, _+_, _*_, _^_, _≤_, _<_}
 use mathlib.Core.Path.{_≡_, refl, sym, _∙_}
-use mathlib.Core.Bool.{Bool, true}
+use mathlib.Core.Bool.{Bool, true, false}
 use mathlib.Core.Logic.{_↔_}
 use mathlib.Core.List.{List, [], _∷_}
 use native.Mathlib.Omega.{arith}
@@ -16,13 +16,15 @@ use Rattle.gsd_format.specs.Refusals.{_⇒_, _▹_}
 use Rattle.gsd_format.specs.Types.{known, chunkSize}
 use Rattle.gsd_format.specs.Header.{magic, supported, headerSize, leastLength, greatestLength, versionOf, layoutOf}
 use Rattle.gsd_format.specs.Names.{namesOf}
-use Rattle.gsd_format.specs.Entries.{entriesOf, key}
-use Rattle.gsd_format.specs.Opening.{headerTest, blocksTest, Blocks, namesTest, greatestFrame, entryTest, entriesTest, verdict, countsOf, opening}
+use Rattle.gsd_format.specs.Entries.{entriesOf}
+use Rattle.gsd_format.specs.Opening.{headerTest, blocksTest, Blocks, namesTest, greatestFrame, misplaced, entryTest, entriesTest}
+use Rattle.gsd_format.specs.Opening.{verdict, countsOf, opening}
 use Rattle.gsd_format.specs.Lookup.{none}
 use Rattle.gsd_format.proofs.Refusals.{both, none-of, unmet, passed, neither, neither-of, not-of}
 use Rattle.gsd_format.proofs.Refusals.{not-less, less-no, first-most, test-most}
 use Rattle.gsd_format.proofs.Bytes.{Same, same-from, le-same, same-eq, eq-same, zeroIn-same, meets-apart, apart-meets}
-use Rattle.gsd_format.proofs.Entries.{Ordered, ShortIds}
+use Rattle.gsd_format.proofs.Entries.{ShortIds}
+use Rattle.gsd_format.proofs.Arranged.{Arranged}
 
 -- 1 to 5
 pub record Front (x : List ℕ) : Type 0 where
@@ -95,11 +97,12 @@ pub record Sound (l : Layout) (names : ℕ) (e : Entry) : Type 0 where
   pub offNames : Apart (e .location) (chunkSize e) (l .namelist) (64 * l .segments)
   pub early : e .frame ≤ greatestFrame
 
-pub entry-zero : (l : Layout) (names least : ℕ) (e : Entry) → entryTest l names least e ≡ 0 ↔ Sound l names e × (least ≤ key e)
+pub entry-zero : (l : Layout) (names : ℕ) (before : List Entry) (e : Entry) →
+    entryTest l names before e ≡ 0 ↔ Sound l names e × (misplaced (l .version) before e ≡ false)
 unfolding entryTest
-entry-zero l names least e = (to, from)
+entry-zero l names before e = (to, from)
   where
-    to : entryTest l names least e ≡ 0 → Sound l names e × (least ≤ key e)
+    to : entryTest l names before e ≡ 0 → Sound l names e × (misplaced (l .version) before e ≡ false)
     to h =
         let a = both _ _ h in
         let b = both _ _ (a .1) in
@@ -119,15 +122,15 @@ entry-zero l names least e = (to, from)
             offNames = meets-apart _ _ _ _ (off .1);
             early = not-less _ _ _ (g .1);
           },
-          not-less _ _ _ (d .0),
+          unmet _ _ (d .0),
         )
 
-    from : Sound l names e × (least ≤ key e) → entryTest l names least e ≡ 0
+    from : Sound l names e × (misplaced (l .version) before e ≡ false) → entryTest l names before e ≡ 0
     from (s, a) =
         none-of _ _ (passed _ _ (neither-of _ _ (le-ltb _ _ (s .low)) (lt-leb _ _ (s .high))))
         (none-of _ _ (passed _ _ (not-of _ (s .typed)))
         (none-of _ _ (passed _ _ (lt-leb _ _ (s .named)))
-        (none-of _ _ (less-no _ _ _ a)
+        (none-of _ _ (passed _ _ a)
         (none-of _ _ (less-no _ _ _ (s .within))
         (none-of _ _ (passed _ _ (neither-of _ _ (apart-meets _ _ _ _ (s .offIndex)) (apart-meets _ _ _ _ (s .offNames))))
         (less-no _ _ _ (s .early)))))))
@@ -136,22 +139,23 @@ entry-zero l names least e = (to, from)
 abbrev pub AllSound : Layout → ℕ → List Entry → Type 0
 AllSound l names es = (i : ℕ) → i < length es → Sound l names (getD es i none)
 
-pub entries-zero : (es : List Entry) (l : Layout) (names least : ℕ) → entriesTest l names least es ≡ 0 ↔ AllSound l names es × Ordered least es
+pub entries-zero : (es : List Entry) (l : Layout) (names : ℕ) (before : List Entry) →
+    entriesTest l names before es ≡ 0 ↔ AllSound l names es × Arranged (l .version) before es
 unfolding entriesTest
-entries-zero [] l names least = (λ h. (λ i u. absurd (omega arith), tt), λ p. refl)
-entries-zero (e ∷ es) l names least = (to (entries-zero es l names (key e + 1) .0), from (entries-zero es l names (key e + 1) .1))
+entries-zero [] l names before = (λ h. (λ i u. absurd (omega arith), tt), λ p. refl)
+entries-zero (e ∷ es) l names before = (to (entries-zero es l names (e ∷ before) .0), from (entries-zero es l names (e ∷ before) .1))
   where
-    to : (entriesTest l names (key e + 1) es ≡ 0 → AllSound l names es × Ordered (key e + 1) es) →
-        entriesTest l names least (e ∷ es) ≡ 0 → AllSound l names (e ∷ es) × Ordered least (e ∷ es)
+    to : (entriesTest l names (e ∷ before) es ≡ 0 → AllSound l names es × Arranged (l .version) (e ∷ before) es) →
+        entriesTest l names before (e ∷ es) ≡ 0 → AllSound l names (e ∷ es) × Arranged (l .version) before (e ∷ es)
     to r h =
         let p = both _ _ h in
-        let a = entry-zero l names least e .0 (p .0) in
+        let a = entry-zero l names before e .0 (p .0) in
         let b = r (p .1) in
         (elim [ zero ↦ λ u. a .0 | suc i ↦ λ u. b .0 i (omega arith) ], (a .1, b .1))
 
-    from : (AllSound l names es × Ordered (key e + 1) es → entriesTest l names (key e + 1) es ≡ 0) →
-        AllSound l names (e ∷ es) × Ordered least (e ∷ es) → entriesTest l names least (e ∷ es) ≡ 0
-    from r (s, o) = none-of _ _ (entry-zero l names least e .1 (s 0 (omega arith), o .0)) (r (λ i u. s (suc i) (omega arith), o .1))
+    from : (AllSound l names es × Arranged (l .version) (e ∷ before) es → entriesTest l names (e ∷ before) es ≡ 0) →
+        AllSound l names (e ∷ es) × Arranged (l .version) before (e ∷ es) → entriesTest l names before (e ∷ es) ≡ 0
+    from r (s, o) = none-of _ _ (entry-zero l names before e .1 (s 0 (omega arith), o .0)) (r (λ i u. s (suc i) (omega arith), o .1))
 
 -- ids that are places of names are of 16 bits
 pub sound-ids : (es : List Entry) (l : Layout) (names : ℕ) → names ≤ 65536 → AllSound l names es → ShortIds es
@@ -160,12 +164,12 @@ sound-ids es l names h s i u = omega (arith, s i u .named)
 -- the verdict is 0 exactly when each part's number is
 pub verdict-parts : (x : List ℕ) → verdict x ≡ 0 ↔
     (headerTest x ≡ 0) × (blocksTest (layoutOf x) ≡ 0) × (namesTest x (layoutOf x) (namesOf x) ≡ 0) ×
-    (entriesTest (layoutOf x) (length (namesOf x)) 0 (entriesOf x) ≡ 0)
+    (entriesTest (layoutOf x) (length (namesOf x)) [] (entriesOf x) ≡ 0)
 unfolding verdict
 verdict-parts x = (to, λ p. none-of _ _ (p .0) (none-of _ _ (p .1) (none-of _ _ (p .2) (p .3))))
   where
     to : verdict x ≡ 0 → (headerTest x ≡ 0) × (blocksTest (layoutOf x) ≡ 0) × (namesTest x (layoutOf x) (namesOf x) ≡ 0) ×
-        (entriesTest (layoutOf x) (length (namesOf x)) 0 (entriesOf x) ≡ 0)
+        (entriesTest (layoutOf x) (length (namesOf x)) [] (entriesOf x) ≡ 0)
     to h =
         let a = both _ _ h in
         let b = both _ _ (a .1) in
@@ -178,7 +182,7 @@ pub record Opens (x : List ℕ) : Type 0 where
   pub blocks : Blocks (layoutOf x)
   pub names : namesTest x (layoutOf x) (namesOf x) ≡ 0
   pub sound : AllSound (layoutOf x) (length (namesOf x)) (entriesOf x)
-  pub ordered : Ordered 0 (entriesOf x)
+  pub arranged : Arranged (layoutOf x .version) [] (entriesOf x)
 
 pub verdict-zero : (x : List ℕ) → verdict x ≡ 0 ↔ Opens x
 verdict-zero x = (to, from)
@@ -186,28 +190,28 @@ verdict-zero x = (to, from)
     to : verdict x ≡ 0 → Opens x
     to h =
         let p = verdict-parts x .0 h in
-        let e = entries-zero (entriesOf x) (layoutOf x) (length (namesOf x)) 0 .0 (p .3) in
-        record { front = header-zero x .0 (p .0); blocks = blocks-zero (layoutOf x) .0 (p .1); names = p .2; sound = e .0; ordered = e .1 }
+        let e = entries-zero (entriesOf x) (layoutOf x) (length (namesOf x)) [] .0 (p .3) in
+        record { front = header-zero x .0 (p .0); blocks = blocks-zero (layoutOf x) .0 (p .1); names = p .2; sound = e .0; arranged = e .1 }
 
     from : Opens x → verdict x ≡ 0
     from o = verdict-parts x .1 (
       header-zero x .1 (o .front),
       blocks-zero (layoutOf x) .1 (o .blocks),
       o .names,
-      entries-zero (entriesOf x) (layoutOf x) (length (namesOf x)) 0 .1 (o .sound, o .ordered),
+      entries-zero (entriesOf x) (layoutOf x) (length (namesOf x)) [] .1 (o .sound, o .arranged),
     )
 
 -- no number of opening is above 18
 then : (t : Bool) (n b : ℕ) → n ≤ 18 → b ≤ 18 → ((t ⇒ n) ▹ b) ≤ 18
 then t n b h g = first-most 18 (t ⇒ n) b (test-most 18 t n h) g
 
-entries-most : (es : List Entry) (l : Layout) (names least : ℕ) → entriesTest l names least es ≤ 18
+entries-most : (es : List Entry) (l : Layout) (names : ℕ) (before : List Entry) → entriesTest l names before es ≤ 18
 unfolding entriesTest entryTest
-entries-most [] l names least = omega arith
-entries-most (e ∷ es) l names least = first-most 18 _ _
+entries-most [] l names before = omega arith
+entries-most (e ∷ es) l names before = first-most 18 _ _
     (then _ 12 _ (omega arith) (then _ 13 _ (omega arith) (then _ 14 _ (omega arith) (then _ 15 _ (omega arith)
     (then _ 16 _ (omega arith) (then _ 17 _ (omega arith) (test-most 18 _ 18 (omega arith))))))))
-    (entries-most es l names (key e + 1))
+    (entries-most es l names (e ∷ before))
 
 pub verdict-most : (x : List ℕ) → verdict x ≤ 18
 unfolding verdict headerTest blocksTest namesTest
@@ -216,7 +220,7 @@ verdict-most x =
     (then _ 1 _ (omega arith) (then _ 2 _ (omega arith) (then _ 3 _ (omega arith) (then _ 4 _ (omega arith) (test-most 18 _ 5 (omega arith))))))
     (first-most 18 _ _ (then _ 6 _ (omega arith) (then _ 7 _ (omega arith) (test-most 18 _ 8 (omega arith))))
     (first-most 18 _ _ (then _ 9 _ (omega arith) (then _ 10 _ (omega arith) (test-most 18 _ 11 (omega arith))))
-    (entries-most (entriesOf x) (layoutOf x) (length (namesOf x)) 0)))
+    (entries-most (entriesOf x) (layoutOf x) (length (namesOf x)) [])))
 
 -- the answer
 pub opening-open : (x : List ℕ) → verdict x ≡ 0 → opening x ≡ Opening.Open (countsOf x)

@@ -8,7 +8,7 @@ use Rattle.gsd_format.specs.declared.Entry.{Entry}
 use Rattle.gsd_format.specs.declared.Layout.{Layout}
 use Rattle.gsd_format.specs.Types.{chunkSize}
 use Rattle.gsd_format.specs.Refusals.{_▹_}
-use Rattle.gsd_format.specs.Entries.{entryAt, entriesAt, key, framesFrom, framesOf, chunksEnd}
+use Rattle.gsd_format.specs.Entries.{entryAt, entriesAt, framesFrom, framesOf, chunksEnd}
 use Rattle.gsd_format.specs.Opening.{entryTest, entriesTest}
 use Rattle.gsd_format.proofs.Refusals.{first-of, stays}
 use Rattle.gsd_format.proofs.Entries.{entry-location, entries-end, entries-more, frames-none, frames-more}
@@ -23,47 +23,49 @@ pub chunks-more : (e : Entry) (es : List Entry) → chunksEnd (e ∷ es) ≡ max
 unfolding chunksEnd
 chunks-more e es = refl
 
-pub test-none : (l : Layout) (names least : ℕ) → entriesTest l names least [] ≡ 0
+pub test-none : (l : Layout) (names : ℕ) (before : List Entry) → entriesTest l names before [] ≡ 0
 unfolding entriesTest
-test-none l names least = refl
+test-none l names before = refl
 
-pub test-more : (l : Layout) (names least : ℕ) (e : Entry) (es : List Entry)
-    → entriesTest l names least (e ∷ es) ≡ entryTest l names least e ▹ entriesTest l names (key e + 1) es
+pub test-more : (l : Layout) (names : ℕ) (before : List Entry) (e : Entry) (es : List Entry)
+    → entriesTest l names before (e ∷ es) ≡ entryTest l names before e ▹ entriesTest l names (e ∷ before) es
 unfolding entriesTest
-test-more l names least e es = refl
+test-more l names before e es = refl
 
--- after so many good entries of all, the rest lies ahead: the next key is least at the least, the frames passed are top,
--- and the chunks passed end at end
-pub record Walked (l : Layout) (names : ℕ) (all : List Entry) (least top end many : ℕ) (rest : List Entry) : Type 0 where
-  pub tested : entriesTest l names 0 all ≡ entriesTest l names least rest
+-- after so many good entries of all, the last of them first, the rest lies ahead: the frames passed are top, and the chunks
+-- passed end at end
+pub record Walked (l : Layout) (names : ℕ) (all before : List Entry) (top end many : ℕ) (rest : List Entry) : Type 0 where
+  pub tested : entriesTest l names [] all ≡ entriesTest l names before rest
   pub framed : framesOf all ≡ framesFrom top rest
   pub counted : length all ≡ many + length rest
   pub ended : chunksEnd all ≡ max end (chunksEnd rest)
 
-pub walked-none : (l : Layout) (names : ℕ) (all : List Entry) → Walked l names all 0 0 0 0 all
+pub walked-none : (l : Layout) (names : ℕ) (all : List Entry) → Walked l names all [] 0 0 0 all
 walked-none l names all = record { tested = refl; framed = refl; counted = omega arith; ended = omega arith }
 
-pub walked-more : (l : Layout) (names : ℕ) (all : List Entry) (least top end many : ℕ) (rest : List Entry) (e : Entry) (es : List Entry) →
-    Walked l names all least top end many rest → rest ≡ e ∷ es → entryTest l names least e ≡ 0 →
-    Walked l names all (key e + 1) (e .frame + 1) (max end (e .location + chunkSize e)) (many + 1) es
-walked-more l names all least top end many rest e es w q z = record {
-  tested = w .tested ∙ ap (entriesTest l names least) q ∙ test-more l names least e es ∙ first-of _ _ z;
+pub walked-more : (l : Layout) (names : ℕ) (all before : List Entry) (top end many : ℕ) (rest : List Entry) (e : Entry) (es : List Entry) →
+    Walked l names all before top end many rest → rest ≡ e ∷ es → entryTest l names before e ≡ 0 →
+    Walked l names all (e ∷ before) (e .frame + 1) (max end (e .location + chunkSize e)) (many + 1) es
+walked-more l names all before top end many rest e es w q z = record {
+  tested = w .tested ∙ ap (entriesTest l names before) q ∙ test-more l names before e es ∙ first-of _ _ z;
   framed = w .framed ∙ ap (framesFrom top) q ∙ frames-more top e es;
   counted = omega (arith, w .counted, ap length q);
   ended = omega (arith, w .ended, ap chunksEnd q, chunks-more e es);
 }
 
 -- the first bad entry decides
-pub walked-bad : (l : Layout) (names : ℕ) (all : List Entry) (least top end many : ℕ) (rest : List Entry) (e : Entry) (es : List Entry) →
-    Walked l names all least top end many rest → rest ≡ e ∷ es → (entryTest l names least e ≡ 0 → ⊥) →
-    entriesTest l names 0 all ≡ entryTest l names least e
-walked-bad l names all least top end many rest e es w q n = w .tested ∙ ap (entriesTest l names least) q ∙ test-more l names least e es ∙ stays _ _ n
+pub walked-bad : (l : Layout) (names : ℕ) (all before : List Entry) (top end many : ℕ) (rest : List Entry) (e : Entry) (es : List Entry) →
+    Walked l names all before top end many rest → rest ≡ e ∷ es → (entryTest l names before e ≡ 0 → ⊥) →
+    entriesTest l names [] all ≡ entryTest l names before e
+walked-bad l names all before top end many rest e es w q n =
+    w .tested ∙ ap (entriesTest l names before) q ∙ test-more l names before e es ∙ stays _ _ n
 
 -- the end of the list
-pub walked-all : (l : Layout) (names : ℕ) (all : List Entry) (least top end many : ℕ) (rest : List Entry) → Walked l names all least top end many rest →
-    rest ≡ [] → (entriesTest l names 0 all ≡ 0) × (length all ≡ many) × (framesOf all ≡ top) × (chunksEnd all ≡ end)
-walked-all l names all least top end many rest w z = (
-  w .tested ∙ ap (entriesTest l names least) z ∙ test-none l names least,
+pub walked-all : (l : Layout) (names : ℕ) (all before : List Entry) (top end many : ℕ) (rest : List Entry) →
+    Walked l names all before top end many rest →
+    rest ≡ [] → (entriesTest l names [] all ≡ 0) × (length all ≡ many) × (framesOf all ≡ top) × (chunksEnd all ≡ end)
+walked-all l names all before top end many rest w z = (
+  w .tested ∙ ap (entriesTest l names before) z ∙ test-none l names before,
   omega (arith, w .counted, ap length z),
   w .framed ∙ ap (framesFrom top) z ∙ frames-none top,
   omega (arith, w .ended, ap chunksEnd z, chunks-none),

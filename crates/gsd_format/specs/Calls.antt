@@ -9,6 +9,7 @@ use Rattle.gsd_format.specs.declared.Entry.{Entry}
 use Rattle.gsd_format.specs.Bytes.{le}
 use Rattle.gsd_format.specs.Refusals.{_⇒_, _▹_}
 use Rattle.gsd_format.specs.Types.{sizeOf}
+use Rattle.gsd_format.specs.Header.{layoutOf}
 use Rattle.gsd_format.specs.Names.{nameParts, namesOf, indexOf}
 use Rattle.gsd_format.specs.Entries.{entriesOf, framesOf}
 use Rattle.gsd_format.specs.Opening.{verdict}
@@ -74,7 +75,8 @@ searchTest img frame name =
 
 -- the numbers of the entries that a lookup's search probes; without a search none
 abbrev pub probesOf : List ℕ → ℕ → List ℕ → List ℕ
-probesOf img frame name = unless (searchTest img frame name) (probed frame (indexOf name (namesOf img)) (entriesOf img))
+probesOf img frame name =
+    unless (searchTest img frame name) (probed (layoutOf img .version) frame (indexOf name (namesOf img)) (entriesOf img))
 
 -- where a chunk lies
 abbrev pub chunkValues : List ℕ → ℕ → List ℕ → List ℕ

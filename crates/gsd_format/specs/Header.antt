@@ -11,7 +11,10 @@ use Rattle.gsd_format.specs.Bytes.{le}
 abbrev pub magic : List ℕ
 magic = 0xdf ∷ 0x65 ∷ 0xdf ∷ 0x65 ∷ 0xdf ∷ 0x65 ∷ 0xdf ∷ 0x65 ∷ []
 
--- GSD file layer 2.0 and 2.1
+-- GSD file layer 1.0, 2.0 and 2.1
+abbrev pub version10 : ℕ
+version10 = 0x00010000
+
 abbrev pub version20 : ℕ
 version20 = 0x00020000
 
@@ -20,7 +23,11 @@ version21 = 0x00020001
 
 -- the versions that open
 abbrev pub supported : ℕ → Bool
-supported version = eqb version version20 || eqb version version21
+supported version = eqb version version10 || eqb version version20 || eqb version version21
+
+-- is it 1.0, where a name has a segment of its own and entries stand in the order of writing?
+abbrev pub v10 : ℕ → Bool
+v10 version = eqb version version10
 
 abbrev pub headerSize : ℕ
 headerSize = 256

@@ -1,6 +1,7 @@
 -- Laws of the rows' ids and new names, found row by row.
 use Prim.Native.Nat.{ℕ, _+_, _-_, _≤_, _<_}
 use mathlib.Core.Path.{_≡_, refl, sym, _∙_, ap}
+use mathlib.Core.Bool.{false}
 use mathlib.Core.List.{List, [], _∷_, _++_, append-nil}
 use native.Mathlib.Nat.{sub-zero}
 use native.Mathlib.Numerals.{add-one}
@@ -130,8 +131,8 @@ module _ (names : List (List ℕ)) (rs : List Row) where
         size = g .bytes ∙ ap (λ ns. length (flat ns)) all;
       }
 
-pub count-in : (img starts : List ℕ) (count : ℕ) → length (namesIn img starts count) ≡ count
-count-in img starts count = sym (ap length (names-all img starts count)) ∙ names-long img starts count 0 ∙ sub-zero count
+pub count-in : (img starts : List ℕ) (count : ℕ) → length (namesIn false img starts count) ≡ count
+count-in img starts count = sym (ap length (names-all false img starts count)) ∙ names-long false img starts count 0 ∙ sub-zero count
 
 -- a name's bytes lie before the next name
 pub row-room : {s c : List ℕ} → Located s c → (i : ℕ) → i < rowCount s →

@@ -1,6 +1,7 @@
 -- What the code finds of the rows' names: their ids, and which of them are new.
 use Prim.Native.Nat.{ℕ, _≤_, _<_}
 use mathlib.Core.Path.{_≡_}
+use mathlib.Core.Bool.{false}
 use mathlib.Core.List.{List, [], _++_}
 use lib.ListN.{length, getD}
 use Rattle.gsd_format.specs.Bytes.{part}
@@ -26,7 +27,7 @@ pub record RowNamed (rs : List Row) (n row : ℕ) (name : List ℕ) : Type 0 whe
 
 -- what the search for ids needs: names that lie in the image, and the rows of a sheet, no two with one name, where they lie
 pub record Searchable (img starts : List ℕ) (names : ℕ) (sheet c : List ℕ) (count : ℕ) : Type 0 where
-  pub spans : Spans starts names (length img)
+  pub spans : Spans false starts names (length img)
   pub few : names ≤ mostNames
   pub long : length c ≡ planWords
   pub located : Located sheet c

@@ -1,5 +1,5 @@
-// Leaf code of the append: the ids of the rows' names. A listed name has its place in the list, the new ones follow in the
-// order of rows. The module order sorts rows by their ids.
+// Leaf code of the append, which 1.0 refuses: the ids of the rows' names. A listed name has its place in the list, the new
+// ones follow in the order of rows. The module order sorts rows by their ids.
 mod order;
 
 use gsd_names::PLACES;
@@ -10,6 +10,7 @@ use gsd_sheet::NEW_ROW;
 use gsd_sheet::SLOT_PAIR;
 use order::sort;
 ghost use mathlib.Core.Path.{_≡_};
+ghost use mathlib.Core.Bool.{false};
 ghost use Prim.Native.Nat.{_+_, _-_, _≤_, _<_};
 ghost use lib.ListN.{length};
 ghost use Rattle.gsd_format.specs.Bytes.{part};
@@ -43,12 +44,12 @@ fn id_of(
     from: usize,
     until: usize,
 ) -> usize
-    requires spans { ⌜ Spans (now starts) names (length (now image)) ⌝ }
+    requires spans { ⌜ Spans false (now starts) names (length (now image)) ⌝ }
     requires ordered { ⌜ from ≤ until ⌝ }
     requires inside { ⌜ until ≤ length (now sheet) ⌝ }
-    ensures { λ r. ⌜ r ≡ indexOf (part (now (sheet .entry)) from (until - from)) (namesIn (now (image .entry)) (now (starts .entry)) names) ⌝ }
+    ensures { λ r. ⌜ r ≡ indexOf (part (now (sheet .entry)) from (until - from)) (namesIn false (now (image .entry)) (now (starts .entry)) names) ⌝ }
 {
-    name_id(image, starts, names, &sheet[from..until])
+    name_id(image, starts, false, names, &sheet[from..until])
 }
 
 // Each row's name is searched once. The pairs of id and row are still in the order of rows.
@@ -61,7 +62,8 @@ fn list_ids(
     count: usize,
 ) -> NewNames
     requires { ⌜ Searchable (now image) (now starts) names (now sheet) (now plan) count ⌝ }
-    ensures listed { λ r. ⌜ IdsListed (namesIn (now (image .entry)) (now (starts .entry)) names) (rowsOf (now (sheet .entry))) (now (plan .exit)) r ⌝ }
+    ensures listed { λ r. ⌜ IdsListed (namesIn false (now (image .entry)) (now (starts .entry)) names) (rowsOf (now (sheet .entry)))
+        (now (plan .exit)) r ⌝ }
     ensures kept { λ r. ⌜ Kept slotPairColumn (now (plan .entry)) (now (plan .exit)) ⌝ }
 {
     let mut fresh = 0;
@@ -123,7 +125,8 @@ pub fn find_ids(
     count: usize,
 ) -> NewNames
     requires { ⌜ Searchable (now image) (now starts) names (now sheet) (now plan) count ⌝ }
-    ensures found { λ r. ⌜ IdsFound (namesIn (now (image .entry)) (now (starts .entry)) names) (rowsOf (now (sheet .entry))) (now (plan .exit)) r ⌝ }
+    ensures found { λ r. ⌜ IdsFound (namesIn false (now (image .entry)) (now (starts .entry)) names) (rowsOf (now (sheet .entry)))
+        (now (plan .exit)) r ⌝ }
     ensures kept { λ r. ⌜ Kept slotPairColumn (now (plan .entry)) (now (plan .exit)) ⌝ }
 {
     let new = list_ids(image, starts, names, sheet, plan, count);

@@ -25,30 +25,30 @@ small-none (x ∷ b) e = absurd (omega arith)
 
 -- Prints kept one by one
 
-pub printed-none : (whole : Bool) (img starts prints : List ℕ) → Printed whole img starts 0 prints
-printed-none whole img starts prints = record { each = λ i l. absurd (omega arith) }
+pub printed-none : (whole v : Bool) (img starts prints : List ℕ) → Printed whole v img starts 0 prints
+printed-none whole v img starts prints = record { each = λ i l. absurd (omega arith) }
 
-pub printed-more : (whole : Bool) (img starts prints : List ℕ) (i r : ℕ) → i < length prints → Printed whole img starts i prints →
-    r ≡ printOf whole (bytesOf img (partAt starts i)) → Printed whole img starts (i + 1) (set prints i r)
-printed-more whole img starts prints i r l h e = record {
-  each = below-more (λ k. getD (set prints i r) k 0 ≡ printOf whole (bytesOf img (partAt starts k))) i
+pub printed-more : (whole v : Bool) (img starts prints : List ℕ) (i r : ℕ) → i < length prints → Printed whole v img starts i prints →
+    r ≡ printOf whole (bytesOf img (partAt v starts i)) → Printed whole v img starts (i + 1) (set prints i r)
+printed-more whole v img starts prints i r l h e = record {
+  each = below-more (λ k. getD (set prints i r) k 0 ≡ printOf whole (bytesOf img (partAt v starts k))) i
       (λ k m. getD-set-other prints i k r 0 (λ q. omega arith) ∙ h .each k m)
       (getD-set-same prints i r 0 l ∙ e);
 }
 
 -- equal names have equal prints
-pub printed-tell : (whole : Bool) (img starts : List ℕ) (count : ℕ) (prints : List ℕ) → count ≤ length prints → Printed whole img starts count prints →
-    Telling img starts count prints
-printed-tell whole img starts count prints l h = record { room = l; tell = λ i j a b e. h .each i a ∙ ap (printOf whole) e ∙ sym (h .each j b) }
+pub printed-tell : (whole v : Bool) (img starts : List ℕ) (count : ℕ) (prints : List ℕ) → count ≤ length prints →
+    Printed whole v img starts count prints → Telling v img starts count prints
+printed-tell whole v img starts count prints l h = record { room = l; tell = λ i j a b e. h .each i a ∙ ap (printOf whole) e ∙ sym (h .each j b) }
 
 -- all are kept
-pub printed-all : (whole : Bool) (img starts prints : List ℕ) (i count : ℕ) → count ≤ i → i ≤ count → Printed whole img starts i prints →
-    Printed whole img starts count prints
-printed-all whole img starts prints i count l m h = record { each = λ k n. h .each k (omega arith) }
+pub printed-all : (whole v : Bool) (img starts prints : List ℕ) (i count : ℕ) → count ≤ i → i ≤ count → Printed whole v img starts i prints →
+    Printed whole v img starts count prints
+printed-all whole v img starts prints i count l m h = record { each = λ k n. h .each k (omega arith) }
 
-pub paired : (img starts : List ℕ) (count : ℕ) (prints : List ℕ) (i j : ℕ) → Spans starts count (length img) → Telling img starts count prints →
-    i < count → j < count → Paired img starts prints i j
-paired img starts count prints i j h t a b = record {
+pub paired : (v : Bool) (img starts : List ℕ) (count : ℕ) (prints : List ℕ) (i j : ℕ) → Spans v starts count (length img) →
+    Telling v img starts count prints → i < count → j < count → Paired v img starts prints i j
+paired v img starts count prints i j h t a b = record {
   kept = (h i a, h j b);
   room = (omega (arith, t .room), omega (arith, t .room));
   tell = t .tell i j a b;
@@ -86,8 +86,8 @@ among-none (suc n) p prints at h k l m e = go (among-none n p prints (at + 1)) (
     go f (a, b) (no q) = f b k (omega arith) (omega arith) e
 
 -- a name whose print is none of those behind it has no twin there
-pub twins-silent : (img starts : List ℕ) (count : ℕ) (prints : List ℕ) (i : ℕ) → Telling img starts count prints → i < count →
-    among (getD prints i 0) prints (i + 1) (count - (i + 1)) ≡ false → twins (names img starts count i) ≡ twins (names img starts count (i + 1))
-twins-silent img starts count prints i h l e =
-    twins-apart img starts count i l
+pub twins-silent : (v : Bool) (img starts : List ℕ) (count : ℕ) (prints : List ℕ) (i : ℕ) → Telling v img starts count prints → i < count →
+    among (getD prints i 0) prints (i + 1) (count - (i + 1)) ≡ false → twins (names v img starts count i) ≡ twins (names v img starts count (i + 1))
+twins-silent v img starts count prints i h l e =
+    twins-apart v img starts count i l
     (λ j a b q. among-none (count - (i + 1)) (getD prints i 0) prints (i + 1) e j (omega arith) (omega arith) (sym (h .tell i j l b q)))

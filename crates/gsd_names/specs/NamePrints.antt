@@ -19,19 +19,19 @@ printOf true b = fingerprint b
 printOf false b = smallPrint b
 
 -- the first count prints are those of the names
-pub record Printed (whole : Bool) (img starts : List ℕ) (count : ℕ) (prints : List ℕ) : Type 0 where
-  pub each : (i : ℕ) → i < count → getD prints i 0 ≡ printOf whole (bytesOf img (partAt starts i))
+pub record Printed (whole v : Bool) (img starts : List ℕ) (count : ℕ) (prints : List ℕ) : Type 0 where
+  pub each : (i : ℕ) → i < count → getD prints i 0 ≡ printOf whole (bytesOf img (partAt v starts i))
 
 -- there is a print for each name, and equal names have equal prints
-pub record Telling (img starts : List ℕ) (count : ℕ) (prints : List ℕ) : Type 0 where
+pub record Telling (v : Bool) (img starts : List ℕ) (count : ℕ) (prints : List ℕ) : Type 0 where
   pub room : count ≤ length prints
-  pub tell : (i j : ℕ) → i < count → j < count → bytesOf img (partAt starts i) ≡ bytesOf img (partAt starts j) → getD prints i 0 ≡ getD prints j 0
+  pub tell : (i j : ℕ) → i < count → j < count → bytesOf img (partAt v starts i) ≡ bytesOf img (partAt v starts j) → getD prints i 0 ≡ getD prints j 0
 
 -- the i-th and the j-th name are kept and have prints, equal ones where the names are equal
-pub record Paired (img starts prints : List ℕ) (i j : ℕ) : Type 0 where
-  pub kept : Span starts i (length img) × Span starts j (length img)
+pub record Paired (v : Bool) (img starts prints : List ℕ) (i j : ℕ) : Type 0 where
+  pub kept : Span v starts i (length img) × Span v starts j (length img)
   pub room : (i < length prints) × (j < length prints)
-  pub tell : bytesOf img (partAt starts i) ≡ bytesOf img (partAt starts j) → getD prints i 0 ≡ getD prints j 0
+  pub tell : bytesOf img (partAt v starts i) ≡ bytesOf img (partAt v starts j) → getD prints i 0 ≡ getD prints j 0
 
 -- is p one of the n prints from at on?
 unfoldable pub among : ℕ → List ℕ → ℕ → ℕ → Bool

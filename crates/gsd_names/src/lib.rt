@@ -1,4 +1,4 @@
-// The name list: found in one pass as the places where names start, then tested and searched. It is leaf code: its
+// The name list: found in one pass as the places behind its names, then tested and searched. It is leaf code: its
 // functions have a `requires`.
 mod list;
 mod number;

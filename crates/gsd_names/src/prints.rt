@@ -34,17 +34,18 @@ fn name_print(name: &[u8], whole: bool) -> u32
 pub(crate) fn name_prints(
     image: &[u8],
     starts: &[u32; PLACES],
+    v10: bool,
     count: usize,
     whole: bool,
     prints: &mut [u32],
 )
-    requires spans { ⌜ Spans (now starts) count (length (now image)) ⌝ }
+    requires spans { ⌜ Spans v10 (now starts) count (length (now image)) ⌝ }
     requires room { ⌜ count ≤ length (now prints) ⌝ }
-    ensures { λ _. ⌜ Printed whole (now (image .entry)) (now (starts .entry)) count (now (prints .exit)) ⌝ }
+    ensures { λ _. ⌜ Printed whole v10 (now (image .entry)) (now (starts .entry)) count (now (prints .exit)) ⌝ }
 {
     let mut i = 0;
     while i < count {
-        prints[i] = name_print(name_bytes(image, starts, i), whole);
+        prints[i] = name_print(name_bytes(image, starts, v10, i), whole);
         i += 1;
     }
 }

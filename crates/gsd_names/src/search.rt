@@ -25,13 +25,13 @@ pub(crate) fn same_name(a: &[u8], b: &[u8]) -> bool
 }
 
 // The id of a name, or count where it is not listed.
-pub fn name_id(image: &[u8], starts: &[u32; PLACES], count: usize, name: &[u8]) -> usize
-    requires { ⌜ Spans (now starts) count (length (now image)) ⌝ }
-    ensures { λ r. ⌜ r ≡ indexOf (now (name .entry)) (namesIn (now (image .entry)) (now (starts .entry)) count) ⌝ }
+pub fn name_id(image: &[u8], starts: &[u32; PLACES], v10: bool, count: usize, name: &[u8]) -> usize
+    requires { ⌜ Spans v10 (now starts) count (length (now image)) ⌝ }
+    ensures { λ r. ⌜ r ≡ indexOf (now (name .entry)) (namesIn v10 (now (image .entry)) (now (starts .entry)) count) ⌝ }
 {
     let mut i = 0;
     while i < count {
-        if same_name(name, name_bytes(image, starts, i)) {
+        if same_name(name, name_bytes(image, starts, v10, i)) {
             return i;
         }
         i += 1;

@@ -20,22 +20,31 @@ const FEW_NAMES: usize = 16;
 const FEW_BYTES: usize = 1024;
 
 // Are the i-th and the j-th name equal? The print is looked at before the bytes.
-fn are_twins(image: &[u8], starts: &[u32; PLACES], prints: &[u32], i: usize, j: usize) -> bool
-    requires { ⌜ Paired (now image) (now starts) (now prints) i j ⌝ }
-    ensures { λ r. ⌜ r ≡ same (bytesOf (now (image .entry)) (partAt (now (starts .entry)) i))
-        (bytesOf (now (image .entry)) (partAt (now (starts .entry)) j)) ⌝ }
+fn are_twins(
+    image: &[u8],
+    starts: &[u32; PLACES],
+    v10: bool,
+    prints: &[u32],
+    i: usize,
+    j: usize,
+) -> bool
+    requires { ⌜ Paired v10 (now image) (now starts) (now prints) i j ⌝ }
+    ensures { λ r. ⌜ r ≡ same (bytesOf (now (image .entry)) (partAt v10 (now (starts .entry)) i))
+        (bytesOf (now (image .entry)) (partAt v10 (now (starts .entry)) j)) ⌝ }
 {
     if prints[i] != prints[j] {
         return false;
     }
-    same_name(name_bytes(image, starts, i), name_bytes(image, starts, j))
+    let a = name_bytes(image, starts, v10, i);
+    let b = name_bytes(image, starts, v10, j);
+    same_name(a, b)
 }
 
 // Are two of the names equal?
-fn has_twins(image: &[u8], starts: &[u32; PLACES], prints: &[u32], count: usize) -> bool
-    requires spans { ⌜ Spans (now starts) count (length (now image)) ⌝ }
-    requires telling { ⌜ Telling (now image) (now starts) count (now prints) ⌝ }
-    ensures { λ r. ⌜ r ≡ twins (namesIn (now (image .entry)) (now (starts .entry)) count) ⌝ }
+fn has_twins(image: &[u8], starts: &[u32; PLACES], v10: bool, prints: &[u32], count: usize) -> bool
+    requires spans { ⌜ Spans v10 (now starts) count (length (now image)) ⌝ }
+    requires telling { ⌜ Telling v10 (now image) (now starts) count (now prints) ⌝ }
+    ensures { λ r. ⌜ r ≡ twins (namesIn v10 (now (image .entry)) (now (starts .entry)) count) ⌝ }
 {
     let mut found = false;
     let mut i = 0;
@@ -43,7 +52,7 @@ fn has_twins(image: &[u8], starts: &[u32; PLACES], prints: &[u32], count: usize)
         if echoed(prints, i, count) {
             let mut j = i + 1;
             while j < count {
-                if are_twins(image, starts, prints, i, j) {
+                if are_twins(image, starts, v10, prints, i, j) {
                     found = true;
                     break 'pairs;
                 }
@@ -56,38 +65,44 @@ fn has_twins(image: &[u8], starts: &[u32; PLACES], prints: &[u32], count: usize)
 }
 
 // By their sizes and last bytes: an ordinary lookup pays for no fingerprint, and for no long array.
-fn few_twins(image: &[u8], starts: &[u32; PLACES], count: usize) -> bool
-    requires spans { ⌜ Spans (now starts) count (length (now image)) ⌝ }
+fn few_twins(image: &[u8], starts: &[u32; PLACES], v10: bool, count: usize) -> bool
+    requires spans { ⌜ Spans v10 (now starts) count (length (now image)) ⌝ }
     requires few { ⌜ count ≤ 16 ⌝ }
-    ensures { λ r. ⌜ r ≡ twins (namesIn (now (image .entry)) (now (starts .entry)) count) ⌝ }
+    ensures { λ r. ⌜ r ≡ twins (namesIn v10 (now (image .entry)) (now (starts .entry)) count) ⌝ }
 {
     let mut prints = [0u32; FEW_NAMES];
-    name_prints(image, starts, count, false, &mut prints);
-    has_twins(image, starts, &prints, count)
+    name_prints(image, starts, v10, count, false, &mut prints);
+    has_twins(image, starts, v10, &prints, count)
 }
 
 // By their fingerprints: each name is read once, however long they are.
-fn many_twins(image: &[u8], starts: &[u32; PLACES], count: usize) -> bool
-    requires spans { ⌜ Spans (now starts) count (length (now image)) ⌝ }
+fn many_twins(image: &[u8], starts: &[u32; PLACES], v10: bool, count: usize) -> bool
+    requires spans { ⌜ Spans v10 (now starts) count (length (now image)) ⌝ }
     requires few { ⌜ count ≤ mostNames ⌝ }
-    ensures { λ r. ⌜ r ≡ twins (namesIn (now (image .entry)) (now (starts .entry)) count) ⌝ }
+    ensures { λ r. ⌜ r ≡ twins (namesIn v10 (now (image .entry)) (now (starts .entry)) count) ⌝ }
 {
     let mut prints = [0u32; MOST_NAMES];
-    name_prints(image, starts, count, true, &mut prints);
-    has_twins(image, starts, &prints, count)
+    name_prints(image, starts, v10, count, true, &mut prints);
+    has_twins(image, starts, v10, &prints, count)
 }
 
 // Are two of the names equal, which have so many bytes in all?
-pub(crate) fn any_twins(image: &[u8], starts: &[u32; PLACES], count: usize, size: usize) -> bool
-    requires spans { ⌜ Spans (now starts) count (length (now image)) ⌝ }
+pub(crate) fn any_twins(
+    image: &[u8],
+    starts: &[u32; PLACES],
+    v10: bool,
+    count: usize,
+    size: usize,
+) -> bool
+    requires spans { ⌜ Spans v10 (now starts) count (length (now image)) ⌝ }
     requires few { ⌜ count ≤ mostNames ⌝ }
-    ensures { λ r. ⌜ r ≡ twins (namesIn (now (image .entry)) (now (starts .entry)) count) ⌝ }
+    ensures { λ r. ⌜ r ≡ twins (namesIn v10 (now (image .entry)) (now (starts .entry)) count) ⌝ }
 {
     if FEW_NAMES < count {
-        return many_twins(image, starts, count);
+        return many_twins(image, starts, v10, count);
     }
     if FEW_BYTES < size {
-        return many_twins(image, starts, count);
+        return many_twins(image, starts, v10, count);
     }
-    few_twins(image, starts, count)
+    few_twins(image, starts, v10, count)
 }

@@ -1,18 +1,19 @@
 -- Laws of the survey: the opening's number test by test, and what is known of an image where it is 0.
 use Prim.Native.Nat.{ℕ, zero, suc, _+_, _*_, _≤_, _<_}
 use mathlib.Core.Path.{_≡_, refl, sym, _∙_, ap}
-use mathlib.Core.List.{List}
+use mathlib.Core.Bool.{Bool, false}
+use mathlib.Core.List.{List, []}
 use native.Mathlib.Omega.{arith}
 use lib.ListN.{length, getD}
 use Rattle.gsd_format.specs.declared.Layout.{Layout}
-use Rattle.gsd_format.specs.Header.{greatestLength, layoutOf}
-use Rattle.gsd_format.specs.Names.{nameParts, namesOf, namesAt}
+use Rattle.gsd_format.specs.Header.{greatestLength, v10, layoutOf}
+use Rattle.gsd_format.specs.Names.{nameParts, namesOf, blockNames}
 use Rattle.gsd_format.specs.Entries.{entryAt, entriesAt, entriesOf, framesOf, chunksEnd}
 use Rattle.gsd_format.specs.Refusals.{_▹_}
 use Rattle.gsd_format.specs.Opening.{headerTest, blocksTest, mostNames, namesTest, entriesTest, verdict, Blocks}
 use Rattle.gsd_format.specs.Lookup.{none, nowhere}
 use Rattle.gsd_format.proofs.Refusals.{first-of, stays}
-use Rattle.gsd_format.proofs.Names.{names-of, names-pass, parts-are, parts-many}
+use Rattle.gsd_format.proofs.Names.{parts-of-block, names-of-block, parts-many, names-pass}
 use Rattle.gsd_format.proofs.Entries.{image-entries}
 use Rattle.gsd_format.proofs.Verdict.{header-zero, blocks-zero, verdict-zero}
 use Rattle.gsd_names.specs.declared.list.NameList.{NameList}
@@ -61,15 +62,15 @@ module _ (img : List ℕ) (l : Layout) (laid : Laid img l) where
   pub laid-blocks : Blocks l
   laid-blocks = blocks-zero l .0 (laid .blocks)
 
-  behind : verdict img ≡ namesTest img (layoutOf img) (namesOf img) ▹ entriesTest (layoutOf img) (length (namesOf img)) 0 (entriesOf img)
+  behind : verdict img ≡ namesTest img (layoutOf img) (namesOf img) ▹ entriesTest (layoutOf img) (length (namesOf img)) [] (entriesOf img)
   unfolding verdict
   behind = first-of _ _ (laid .header) ∙ first-of _ _ (ap blocksTest (sym (laid .layout)) ∙ laid .blocks)
 
   abbrev pub block : List (List ℕ)
-  block = namesAt img (l .namelist) (64 * l .segments)
+  block = blockNames img l
 
   block-names : block ≡ namesOf img
-  block-names = (λ i. namesAt img (laid .layout i .namelist) (64 * laid .layout i .segments)) ∙ sym (names-of img)
+  block-names = (λ i. blockNames img (laid .layout i)) ∙ sym (names-of-block img)
 
   pub bad-names : (starts : List ℕ) (r : Survey) → r .number ≡ namesTest img l block → (r .number ≡ 0 → ⊥) → Surveyed img starts r
   bad-names starts r e n =
@@ -77,15 +78,22 @@ module _ (img : List ℕ) (l : Layout) (laid : Laid img l) where
       refused img starts r (q ∙ sym (stays _ _ (λ z. n (q ∙ z))) ∙ sym behind) n
 
   -- where no part refuses, the answer is what the walk says
-  pub walked : (starts : List ℕ) (list : NameList) (w : Walk) → namesTest img l block ≡ 0 → NamesFound img (l .namelist) (64 * l .segments) starts list →
+  module _ (starts : List ℕ) (list : NameList) (good : namesTest img l block ≡ 0) (found : NamesFound img l starts list) where
+    closed : list .«open» ≡ false
+    closed = found .«open» ∙ names-pass img l block good .0
+
+    pub few-found : list .count ≤ mostNames
+    few-found = omega (arith, found-count img l starts list found closed, names-pass img l block good .1)
+
+  pub walked : (starts : List ℕ) (list : NameList) (w : Walk) → namesTest img l block ≡ 0 → NamesFound img l starts list →
       Walks l (list .count) (entriesAt img (l .index) (l .slots)) w → (frames : ℕ) → frames ≡ framesTo (w .least) →
       Surveyed img starts (record { number = w .number; layout = l; names = list; entries = w .entries; frames = frames; «chunks_end» = w .«chunks_end» })
   unfolding entriesOf
   walked starts list w good found walks frames framed =
       let es : entriesAt img (l .index) (l .slots) ≡ entriesOf img = λ i. entriesAt img (laid .layout i .index) (laid .layout i .slots) in
-      let count : list .count ≡ length (namesOf img) = sym (found-count img _ _ starts list found) ∙ ap length block-names in
+      let count : list .count ≡ length (namesOf img) = sym (found-count img l starts list found (closed starts list good found)) ∙ ap length block-names in
       record {
-        number = walks .number ∙ (λ i. entriesTest (laid .layout i) (count i) 0 (es i))
+        number = walks .number ∙ (λ i. entriesTest (laid .layout i) (count i) [] (es i))
             ∙ sym (first-of _ _ ((λ i. namesTest img (sym (laid .layout) i) (sym block-names i)) ∙ good)) ∙ sym behind;
         layout = λ _. laid .layout;
         names = λ _. rw (laid .layout) at found;
@@ -120,11 +128,14 @@ module _ (img starts : List ℕ) (s : Survey) (told : Surveyed img starts s) (go
   pub opens : verdict img ≡ 0
   opens = sym (told .number) ∙ good
 
-  listed : NamesFound img (layoutOf img .namelist) (64 * layoutOf img .segments) starts (s .names)
+  listed : NamesFound img (layoutOf img) starts (s .names)
   listed = told .names good
 
+  shut : s .names .«open» ≡ false
+  shut = listed .«open» ∙ names-pass img (layoutOf img) _ (ap (namesTest img (layoutOf img)) (sym (names-of-block img)) ∙ verdict-zero img .0 opens .names) .0
+
   pub many-parts : s .names .count ≡ length (nameParts img)
-  many-parts = listed .count ∙ ap length (sym (parts-are img))
+  many-parts = listed .count shut ∙ ap length (sym (parts-of-block img))
 
   pub many-names : s .names .count ≡ length (namesOf img)
   many-names = many-parts ∙ parts-many img
@@ -132,14 +143,23 @@ module _ (img starts : List ℕ) (s : Survey) (told : Surveyed img starts s) (go
   pub few-names : s .names .count ≤ mostNames
   few-names = omega (arith, many-names, names-pass img (layoutOf img) (namesOf img) (verdict-zero img .0 opens .names) .1)
 
-  pub spans : Spans starts (s .names .count) (length img)
-  spans = listed .spans few-names
+  -- is it 1.0, as the survey tells
+  abbrev pub told10 : Bool
+  told10 = v10 (s .layout .version)
 
-  pub kept-names : namesIn img starts (s .names .count) ≡ namesOf img
-  kept-names = found-names img _ _ starts (s .names) listed few-names ∙ sym (names-of img)
+  same10 : v10 (layoutOf img .version) ≡ told10
+  same10 = ap (λ l. v10 (l .version)) (sym (told .layout good))
 
-  pub kept-part : (n : ℕ) → n < s .names .count → getD (nameParts img) n nowhere ≡ partAt starts n
-  kept-part n h = ap (λ ps. getD ps n nowhere) (parts-are img) ∙ found-part img _ _ starts (s .names) listed few-names n h
+  pub spans : Spans told10 starts (s .names .count) (length img)
+  spans = rw same10 at (listed .spans shut few-names)
+
+  pub kept-names : namesIn told10 img starts (s .names .count) ≡ namesOf img
+  kept-names = rw same10 at (found-names img (layoutOf img) starts (s .names) listed shut few-names ∙ sym (names-of-block img))
+
+  pub kept-part : (n : ℕ) → n < s .names .count → getD (nameParts img) n nowhere ≡ partAt told10 starts n
+  kept-part n h =
+      ap (λ ps. getD ps n nowhere) (parts-of-block img) ∙ found-part img (layoutOf img) starts (s .names) listed shut few-names n h
+      ∙ ap (λ v. partAt v starts n) same10
 
   -- the slots of its entries
   pub index-there : s .layout .index ≡ layoutOf img .index

@@ -1,6 +1,6 @@
 -- What the survey of an image answers: the opening's number, and of an image that opens all that a lookup or an append needs.
-use Prim.Native.Nat.{ℕ, _*_}
 use mathlib.Core.Path.{_≡_}
+use Prim.Native.Nat.{ℕ}
 use mathlib.Core.List.{List}
 use lib.ListN.{length}
 use Rattle.gsd_format.specs.declared.Layout.{Layout}
@@ -20,7 +20,7 @@ pub record Laid (img : List ℕ) (l : Layout) : Type 0 where
 pub record Surveyed (img starts : List ℕ) (r : Survey) : Type 0 where
   pub number : r .number ≡ verdict img
   pub layout : r .number ≡ 0 → r .layout ≡ layoutOf img
-  pub names : r .number ≡ 0 → NamesFound img (layoutOf img .namelist) (64 * layoutOf img .segments) starts (r .names)
+  pub names : r .number ≡ 0 → NamesFound img (layoutOf img) starts (r .names)
   pub entries : r .number ≡ 0 → r .entries ≡ length (entriesOf img)
   pub frames : r .number ≡ 0 → r .frames ≡ framesOf (entriesOf img)
   pub chunks : r .number ≡ 0 → r .«chunks_end» ≡ chunksEnd (entriesOf img)

@@ -17,6 +17,7 @@ use gsd_bytes::VERSION_2_1;
 use gsd_bytes::VERSION_PLACE;
 use gsd_bytes::has_magic;
 use gsd_bytes::has_zero;
+use gsd_bytes::is_10;
 use gsd_bytes::u32_at;
 use gsd_bytes::u64_at;
 use gsd_format::Layout;
@@ -44,6 +45,9 @@ fn text_open(image: &[u8]) -> bool
 fn supported(version: u64) -> bool
     ensures { λ r. ⌜ r ≡ supported version ⌝ }
 {
+    if is_10(version) {
+        return true;
+    }
     if version == VERSION_2_0 {
         return true;
     }

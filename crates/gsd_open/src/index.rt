@@ -5,8 +5,10 @@ use crate::stretch::lesser;
 use crate::stretch::share;
 use gsd_bytes::GREATEST_FRAME;
 use gsd_bytes::HEADER_SIZE;
+use gsd_bytes::MOST_NAMES;
 use gsd_bytes::SEGMENT_SIZE;
 use gsd_bytes::SLOT_SIZE;
+use gsd_bytes::is_10;
 use gsd_bytes::known;
 use gsd_bytes::size_of;
 use gsd_bytes::u16_at;
@@ -16,13 +18,14 @@ use gsd_format::Entry;
 use gsd_format::Layout;
 ghost use mathlib.Core.Path.{_≡_};
 ghost use Prim.Native.Nat.{_+_, _*_, _^_, _≤_, _<_};
+ghost use mathlib.Core.Bool.{false};
 ghost use lib.ListN.{length};
 ghost use Rattle.gsd_format.specs.Types.{sizeOf, chunkSize};
 ghost use Rattle.gsd_format.specs.Refusals.{_▹_};
 ghost use Rattle.gsd_format.specs.Header.{greatestLength};
 ghost use Rattle.gsd_format.specs.Entries.{entryAt, entriesAt, keyOf, key};
-ghost use Rattle.gsd_format.specs.Opening.{greatestFrame, entryTest, Blocks};
-ghost use Rattle.gsd_open.specs.Index.{keysEnd, framesTo, Capped, fieldsTest, roomTest, Walks};
+ghost use Rattle.gsd_format.specs.Opening.{mostNames, greatestFrame, Blocks};
+ghost use Rattle.gsd_open.specs.Index.{keysEnd, framesTo, Capped, fieldsTest, roomTest, misplacedBy, entryTestBy, noted, Places, Unnoted, Walks};
 
 // A location from here on is negative: it is a signed number.
 const NEGATIVE: u64 = 9223372036854775808;
@@ -133,14 +136,38 @@ fn late_number(l: Layout, a: u64, n: u64) -> u64
     18
 }
 
+// May the entry not stand behind those before it? By the least key that may follow, and in 1.0 by the last frames of each id: no
+// frame before is higher, so only the last entry with the id can have its frame. Where it may, its frame is now the last.
+fn misplaced(version: u64, least: u64, last: &mut [u32], e: Entry) -> bool
+    requires early { ⌜ e .frame ≤ greatestFrame ⌝ }
+    requires room { ⌜ Places version (e .id + 1) (now last) ⌝ }
+    ensures { λ r. ⌜ r ≡ misplacedBy version least (now (last .entry)) e ⌝ }
+    ensures kept { λ r. ⌜ (r ≡ false → now (last .exit) ≡ noted version (now (last .entry)) e) ⌝ }
+{
+    if !is_10(version) {
+        return key_of(e) < least;
+    }
+    if ID_RANGE * (e.frame + 1) < least {
+        return true;
+    }
+    let frames = (e.frame + 1) as u32;
+    if last[e.id as usize] == frames {
+        return true;
+    }
+    last[e.id as usize] = frames;
+    false
+}
+
 // 12 to 18 for one entry, whose chunk has size bytes. Of a frame above the greatest no key is made, which could wrap: it would
 // be above every least.
-fn entry_number(l: Layout, names: u64, least: u64, e: Entry, size: u64) -> u64
+fn entry_number(l: Layout, names: u64, least: u64, last: &mut [u32], e: Entry, size: u64) -> u64
     requires blocks { ⌜ Blocks l ⌝ }
     requires short { ⌜ l .len ≤ greatestLength ⌝ }
     requires least { ⌜ least ≤ keysEnd ⌝ }
+    requires room { ⌜ Places (l .version) names (now last) ⌝ }
     requires sized { ⌜ Capped (chunkSize e) size ⌝ }
-    ensures { λ r. ⌜ r ≡ entryTest l names least e ⌝ }
+    ensures { λ r. ⌜ r ≡ entryTestBy l names least (now (last .entry)) e ⌝ }
+    ensures kept { λ r. ⌜ (r ≡ 0 → now (last .exit) ≡ noted (l .version) (now (last .entry)) e) ⌝ }
 {
     let fields = fields_number(l.version, names, e);
     if fields != 0 {
@@ -149,17 +176,19 @@ fn entry_number(l: Layout, names: u64, least: u64, e: Entry, size: u64) -> u64
     if GREATEST_FRAME < e.frame {
         return late_number(l, e.location, size);
     }
-    if key_of(e) < least {
+    if misplaced(l.version, least, last, e) {
         return 15;
     }
     room_number(l, e.location, size)
 }
 
-// One pass over the listed entries.
-pub(crate) fn walk_entries(image: &[u8], l: Layout, names: u64) -> Walk
+// One pass over the listed entries. What is lent as last has in 1.0 a place for every id, with 0 in it; in 2.x it is not touched.
+fn walk_entries(image: &[u8], l: Layout, names: u64, last: &mut [u32]) -> Walk
     requires blocks { ⌜ Blocks l ⌝ }
     requires short { ⌜ l .len ≤ greatestLength ⌝ }
     requires long { ⌜ length (now image) ≡ l .len ⌝ }
+    requires few { ⌜ names ≤ mostNames ⌝ }
+    requires unnoted { ⌜ Unnoted (l .version) (now last) ⌝ }
     ensures { λ r. ⌜ Walks l names (entriesAt (now (image .entry)) (l .index) (l .slots)) r ⌝ }
 {
     let slots = l.slots;
@@ -174,7 +203,7 @@ pub(crate) fn walk_entries(image: &[u8], l: Layout, names: u64) -> Walk
             break;
         }
         let size = chunk_bytes(e.n, e.m, e.kind);
-        number = entry_number(l, names, least, e, size);
+        number = entry_number(l, names, least, last, e, size);
         if number != 0 {
             break;
         }
@@ -189,4 +218,20 @@ pub(crate) fn walk_entries(image: &[u8], l: Layout, names: u64) -> Walk
         least,
         chunks_end,
     }
+}
+
+// The walk by the version: only 1.0 needs the last frames.
+pub(crate) fn walk_listed(image: &[u8], l: Layout, names: u64) -> Walk
+    requires blocks { ⌜ Blocks l ⌝ }
+    requires short { ⌜ l .len ≤ greatestLength ⌝ }
+    requires long { ⌜ length (now image) ≡ l .len ⌝ }
+    requires few { ⌜ names ≤ mostNames ⌝ }
+    ensures { λ r. ⌜ Walks l names (entriesAt (now (image .entry)) (l .index) (l .slots)) r ⌝ }
+{
+    if is_10(l.version) {
+        let mut last = [0u32; MOST_NAMES];
+        return walk_entries(image, l, names, &mut last);
+    }
+    let mut none = [0u32; 1];
+    walk_entries(image, l, names, &mut none)
 }

@@ -3,8 +3,7 @@ use crate::header::blocks_number;
 use crate::header::header_number;
 use crate::header::layout_of;
 use crate::index::frames_to;
-use crate::index::walk_entries;
-use gsd_bytes::SEGMENT_SIZE;
+use crate::index::walk_listed;
 use gsd_format::Layout;
 use gsd_names::NameList;
 use gsd_names::PLACES;
@@ -43,6 +42,7 @@ fn refusal(number: u64) -> Survey
         names: NameList {
             count: 0,
             list_end: 0,
+            open: false,
         },
         entries: 0,
         frames: 0,
@@ -56,17 +56,12 @@ fn survey_lists(image: &[u8], layout: Layout, starts: &mut [u32; PLACES]) -> Sur
     requires places { ⌜ length (now starts) ≡ mostNames + 1 ⌝ }
     ensures { λ r. ⌜ Surveyed (now (image .entry)) (now (starts .exit)) r ⌝ }
 {
-    let names = name_list(
-        image,
-        layout.namelist as usize,
-        SEGMENT_SIZE as usize * layout.segments as usize,
-        starts,
-    );
+    let names = name_list(image, layout, starts);
     let number = names_number(image, layout, names, starts);
     if number != 0 {
         return refusal(number);
     }
-    let walk = walk_entries(image, layout, names.count as u64);
+    let walk = walk_listed(image, layout, names.count as u64);
     Survey {
         number: walk.number,
         layout,

@@ -21,7 +21,7 @@ use Rattle.gsd_ids.specs.RowIds.{RowNamed}
 use Rattle.gsd_places.specs.Places.{Laid}
 use Rattle.gsd_places.proofs.Places.{offset-small}
 use Rattle.gsd_plan.specs.Planning.{planned, Sees, Asked}
-use Rattle.gsd_plan.proofs.Image.{view-room, view-length, Within, seen-within}
+use Rattle.gsd_plan.proofs.Image.{seen-room, view-length, Within, seen-within}
 use Rattle.gsd_plan.proofs.RowPlaces.{located-laid, row-within, name-offset}
 
 module _ {x sheet : List ℕ} {s : Survey} {c : List ℕ} {new : NewNames} (see : Sees x s) (ask : Asked x sheet c new) where
@@ -94,6 +94,6 @@ module _ {x sheet : List ℕ} {s : Survey} {c : List ℕ} {new : NewNames} (see 
       (position < 1152921504606846976) × ((s .names .«list_end» - s .layout .namelist + new .size < 1099511627776)
       × ((s .entries + rows < 1099511627776) × ((s .layout .slots < 1099511627776) × (s .layout .segments < 1099511627776))))
   sites-need rows e position h octets = (
-    omega (arith, view-room x (see .opens) .long, view-length x),
+    omega (arith, seen-room x _ see .long, view-length x),
     (bytes-small octets, (entries-small rows e, (omega (arith, within .index), omega (arith, within .names)))),
   )

@@ -1,26 +1,27 @@
 -- The numbers of an image that opens, and of its survey.
 use Prim.Native.Nat.{ℕ, suc, _+_, _*_, _≤_, _<_, max}
 use mathlib.Core.Path.{_≡_, refl, sym, _∙_, ap}
+use mathlib.Core.Bool.{false}
 use mathlib.Core.List.{List, [], _∷_}
 use native.Mathlib.Omega.{arith}
 use lib.ListN.{length, getD}
 use Rattle.gsd_format.specs.declared.Entry.{Entry}
-use Rattle.gsd_format.specs.Header.{greatestLength, layoutOf}
+use Rattle.gsd_format.specs.Header.{v10, greatestLength, layoutOf}
 use Rattle.gsd_format.specs.Types.{chunkSize}
 use Rattle.gsd_format.specs.Names.{flat, namesOf}
 use Rattle.gsd_format.specs.Entries.{chunksEnd, entriesOf}
 use Rattle.gsd_format.specs.Lookup.{none}
 use Rattle.gsd_format.specs.Opening.{verdict, mostNames}
-use Rattle.gsd_format.proofs.Names.{names-hold, names-of, names-pass}
+use Rattle.gsd_format.proofs.Names.{names-hold, names-of-block, names-recent, names-pass}
 use Rattle.gsd_format.proofs.Entries.{image-entries}
 use Rattle.gsd_format.proofs.Walk.{chunks-none, chunks-more}
 use Rattle.gsd_format.proofs.Verdict.{Opens, verdict-zero}
 use Rattle.gsd_stores.specs.View.{View, viewOf, aligned, endOfUse, indexEnd, namelistEnd}
 use Rattle.gsd_stores.proofs.Plan.{end-of-use}
 use Rattle.gsd_open.specs.declared.survey.Survey.{Survey}
-use Rattle.gsd_names.specs.NameLists.{namesIn}
+use Rattle.gsd_names.specs.NameLists.{namesIn, Spans}
 use Rattle.gsd_open.specs.Surveys.{Surveyed}
-use Rattle.gsd_open.proofs.Surveys.{kept-names, many-names as survey-many}
+use Rattle.gsd_open.proofs.Surveys.{kept-names, spans, many-names as survey-many}
 use Rattle.gsd_plan.specs.Planning.{Sees}
 
 -- The numbers of an image that opens
@@ -38,16 +39,16 @@ pub record Room (v : View) : Type 0 where
   pub chunks : chunksEnd (v .entries) ≤ v .layout .len
   pub fewNames : length (v .names) ≤ mostNames
 
-pub view-room : (x : List ℕ) → verdict x ≡ 0 → Room (viewOf x)
+pub view-room : (x : List ℕ) → verdict x ≡ 0 → v10 (layoutOf x .version) ≡ false → Room (viewOf x)
 unfolding viewOf layoutOf
-view-room x o =
+view-room x o r =
     let opens : Opens x = verdict-zero x .0 o in
     record {
       long = opens .front .high;
       index = opens .blocks .indexHigh;
       names = opens .blocks .namelistHigh;
       entries = image-entries x .few;
-      listed = rw (names-of x) (names-hold x (layoutOf x .namelist) (64 * layoutOf x .segments) .few);
+      listed = rw (names-of-block x ∙ names-recent x (layoutOf x) r) (names-hold x (layoutOf x .namelist) (64 * layoutOf x .segments) .few);
       chunks = chunks-within (entriesOf x) (layoutOf x .len) (λ i l. opens .sound i l .within);
       fewNames = names-pass x (layoutOf x) (namesOf x) (opens .names) .1;
     }
@@ -65,9 +66,13 @@ pub record Within (s : Survey) : Type 0 where
   pub low : s .layout .namelist ≤ s .names .«list_end»
   pub high : s .names .«list_end» ≤ namelistEnd (s .layout)
 
+pub seen-room : (x : List ℕ) (s : Survey) → Sees x s → Room (viewOf x)
+unfolding viewOf
+seen-room x s see = view-room x (see .opens) (sym (ap (λ l. v10 (l .version)) (see .layout)) ∙ see .recent)
+
 module _ (x : List ℕ) (s : Survey) (see : Sees x s) where
   room : Room (viewOf x)
-  room = view-room x (see .opens)
+  room = seen-room x s see
 
   pub seen-within : Within s
   seen-within = record {
@@ -96,14 +101,16 @@ module _ (x starts : List ℕ) (s : Survey) (told : Surveyed x starts s) (good :
   opens : verdict x ≡ 0
   opens = sym (told .number) ∙ good
 
-  pub sees : Sees x s
+  pub sees : v10 (s .layout .version) ≡ false → Sees x s
   unfolding viewOf
-  sees = record {
+  sees r = record {
     opens = opens;
+    recent = r;
     layout = told .layout good;
     entries = told .entries good;
     frames = told .frames good;
-    listEnd = told .names good .listEnd ∙ ap (λ ns. layoutOf x .namelist + length (flat ns)) (sym (names-of x));
+    listEnd = told .names good .listEnd (sym (ap (λ l. v10 (l .version)) (told .layout good)) ∙ r)
+        ∙ ap (λ ns. layoutOf x .namelist + length (flat ns)) (sym (names-of-block x));
     chunks = told .chunks good;
   }
 
@@ -111,6 +118,9 @@ module _ (x starts : List ℕ) (s : Survey) (told : Surveyed x starts s) (good :
   unfolding viewOf
   listed-many = survey-many x starts s told good
 
-  pub listed-are : namesIn x starts (s .names .count) ≡ viewOf x .names
+  pub listed-are : v10 (s .layout .version) ≡ false → namesIn false x starts (s .names .count) ≡ viewOf x .names
   unfolding viewOf
-  listed-are = kept-names x starts s told good
+  listed-are r = ap (λ v. namesIn v x starts (s .names .count)) (sym r) ∙ kept-names x starts s told good
+
+  pub listed-spans : v10 (s .layout .version) ≡ false → Spans false starts (s .names .count) (length x)
+  listed-spans r = rw r at (spans x starts s told good)

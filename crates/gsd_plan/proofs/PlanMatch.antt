@@ -30,7 +30,7 @@ use Rattle.gsd_places.specs.Places.{DataPlaced, nameOffset, NamesPlaced}
 use Rattle.gsd_steps.specs.Steps.{slotRow, slotId}
 use Rattle.gsd_matched.specs.Matches.{NumbersMatch, DataMatch, NameMatch, EntryMatch, Matches}
 use Rattle.gsd_plan.specs.Planning.{planned, Sees, Asked, blockAt, numbersOf}
-use Rattle.gsd_plan.proofs.Image.{view-room}
+use Rattle.gsd_plan.proofs.Image.{seen-room}
 use Rattle.gsd_plan.proofs.AskedRows.{ready, plan as plan-is, few as few-rows, fresh-are, few-fresh, named as row-named, new-row}
 use Rattle.gsd_plan.proofs.Sited.{Sited, begins, sites-are, same-offset}
 use Rattle.gsd_plan.proofs.RowPlaces.{data-position, name-offset}
@@ -177,7 +177,7 @@ module _ {x sheet : List ℕ} {s : Survey} {c : List ℕ} {new : NewNames} {rows
           e,
           all-has (v .names) rs (slotRow c₃ k) (pair .row),
           length-append (v .names) fresh,
-          view-room x (see .opens) .fewNames,
+          seen-room x _ see .fewNames,
           few-new,
         )
 

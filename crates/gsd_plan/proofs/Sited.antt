@@ -25,7 +25,7 @@ use Rattle.gsd_places.specs.declared.Sites.{Sites}
 use Rattle.gsd_places.specs.Places.{dataEndAt, DataPlaced, NamesLaid, nameOffset}
 use Rattle.gsd_places.specs.Sites.{sitesOf}
 use Rattle.gsd_plan.specs.Planning.{planned, Sees, Asked, blockAt, Countable}
-use Rattle.gsd_plan.proofs.Image.{view-room, view-length, use-found}
+use Rattle.gsd_plan.proofs.Image.{seen-room, view-length, use-found}
 use Rattle.gsd_plan.proofs.AskedRows.{ready, plan, within, fresh-are, few-fresh, new-row, short}
 use Rattle.gsd_plan.proofs.RowPlaces.{data-ends}
 use Rattle.gsd_plan.proofs.SitesMatch.{allBytes, allEntries, plannedSites, sites-index, sites-last}
@@ -127,7 +127,7 @@ module _ {x sheet : List ℕ} {s : Survey} {c : List ℕ} {new : NewNames} {rows
   -- with room for all, every place is small
   module _ (fits : sites .last ≤ length x) where
     long : length x ≤ greatestLength
-    long = omega (arith, view-room x (see .opens) .long, view-length x)
+    long = omega (arith, seen-room x _ see .long, view-length x)
 
     names-small : sites .«names_at» < 1152921504606846976
     names-small = omega (arith, ap (λ q. q .«names_at») sites-are, positions (planned x sheet), last-is, long)

@@ -1,17 +1,18 @@
 -- The append's numbers in their order, as the planner tests them.
 use Prim.Native.Nat.{ℕ, suc, _+_, _%_, _≤_, _<_}
 use mathlib.Core.Path.{_≡_, refl, sym, _∙_, ap}
-use mathlib.Core.Bool.{not}
+use mathlib.Core.Bool.{Bool, true, false, not, _||_}
 use mathlib.Core.List.{List}
 use native.Mathlib.Omega.{arith}
 use lib.ListN.{length}
 use lib.Dec.{eqb}
 use borrow.Author.Tests.{lt-ltb, le-ltb, eq-eqb, ne-eqb}
 use Rattle.gsd_format.specs.declared.Layout.{Layout}
+use Rattle.gsd_format.specs.Header.{v10}
 use Rattle.gsd_format.specs.Entries.{framesOf}
 use Rattle.gsd_format.specs.Opening.{verdict, mostNames, greatestFrame}
 use Rattle.gsd_format.specs.Refusals.{_⇒_, _▹_}
-use Rattle.gsd_format.proofs.Refusals.{met, passed, decides, goes-on, first-of, stays, left-holds, right-decides, neither-of, not-of}
+use Rattle.gsd_format.proofs.Refusals.{met, passed, unmet, both, decides, goes-on, first-of, stays, left-holds, right-decides, neither-of, not-of}
 use Rattle.gsd_stores.specs.View.{viewOf}
 use Rattle.gsd_stores.specs.Sheet.{rowsOf, sheetTest}
 use Rattle.gsd_stores.specs.Plan.{newNames}
@@ -26,7 +27,6 @@ use Rattle.gsd_ids.specs.declared.NewNames.{NewNames}
 use Rattle.gsd_ids.specs.RowIds.{IdsFound}
 use Rattle.gsd_matched.specs.Matches.{Matches}
 use Rattle.gsd_plan.specs.Planning.{planned, Sees, Asked, Plans}
-use Rattle.gsd_plan.proofs.Image.{sees}
 
 -- refused, planned, or as the test that decides says
 pub plans-refused : (x sheet : List ℕ) (k n r : ℕ) (p : List ℕ) → k ≡ suc n → r ≡ suc n → Plans x sheet k r p
@@ -82,13 +82,11 @@ module _ (x sheet : List ℕ) where
   not-opened n r p = stops n _ _ r p all-tests
 
   module _ (starts : List ℕ) (s : Survey) (told : Surveyed x starts s) (good : s .number ≡ 0) where
-    seen : Sees x s
-    seen = sees x starts s told good
-
     image-next : appendTest x sheet ≡ imageTest (s .layout) (s .frames) ▹ sheetTest (s .layout .version) sheet ▹ planTest x sheet
+    unfolding viewOf
     image-next =
-        all-tests ∙ first-of (verdict x) _ (seen .opens)
-        ∙ sym (λ i. imageTest (seen .layout i) (seen .frames i) ▹ sheetTest (seen .layout i .version) sheet ▹ planTest x sheet)
+        all-tests ∙ first-of (verdict x) _ (sym (told .number) ∙ good)
+        ∙ sym (λ i. imageTest (told .layout good i) (told .frames good i) ▹ sheetTest (told .layout good i .version) sheet ▹ planTest x sheet)
 
     pub bad-image : (n : ℕ) (r : ℕ) (p : List ℕ) → n ≡ imageTest (s .layout) (s .frames) → (n ≡ 0 → ⊥) → r ≡ n → Plans x sheet (appendTest x sheet) r p
     bad-image n r p = stops n _ _ r p image-next
@@ -103,24 +101,40 @@ module _ (x sheet : List ℕ) where
       pub good-sheet : sheetTest (s .layout .version) sheet ≡ 0 → appendTest x sheet ≡ planTest x sheet
       good-sheet e = sheet-next ∙ first-of (sheetTest (s .layout .version) sheet) (planTest x sheet) e
 
--- 21: a block does not lie at a word; 31: there is no greater frame
+-- 20: the image is of 1.0; 21: a block does not lie at a word; 31: there is no greater frame
 module _ (l : Layout) (frames : ℕ) where
-  pub odd-index : (l .index % 8 ≡ 0 → ⊥) → 21 ≡ imageTest l frames
-  unfolding imageTest
-  odd-index f = sym (decides _ 20 _ (left-holds (not (eqb (l .index % 8) 0)) _ (rw (ne-eqb (l .index % 8) 0 f))))
+  abbrev odd : Bool
+  odd = not (eqb (l .index % 8) 0) || not (eqb (l .namelist % 8) 0)
 
-  pub odd-names : l .index % 8 ≡ 0 → (l .namelist % 8 ≡ 0 → ⊥) → 21 ≡ imageTest l frames
+  pub image-10 : v10 (l .version) ≡ true → 20 ≡ imageTest l frames
   unfolding imageTest
-  odd-names e f =
-      sym (decides _ 20 _ (right-decides (not (eqb (l .index % 8) 0)) _ (not-of _ (eq-eqb (l .index % 8) 0 e)) ∙ rw (ne-eqb (l .namelist % 8) 0 f)))
+  image-10 r = sym (decides _ 19 _ r)
 
-  module _ (e : l .index % 8 ≡ 0) (f : l .namelist % 8 ≡ 0) where
-    both-even : imageTest l frames ≡ (eqb frames (greatestFrame + 1) ⇒ 31)
+  -- where nothing is refused it is not of 1.0
+  pub image-recent : imageTest l frames ≡ 0 → v10 (l .version) ≡ false
+  unfolding imageTest
+  image-recent h = unmet _ _ (both _ _ h .0)
+
+  module _ (recent : v10 (l .version) ≡ false) where
+    from-21 : imageTest l frames ≡ (odd ⇒ 21) ▹ (eqb frames (greatestFrame + 1) ⇒ 31)
     unfolding imageTest
-    both-even = goes-on _ 21 _ (neither-of (not (eqb (l .index % 8) 0)) (not (eqb (l .namelist % 8) 0)) (not-of _ (eq-eqb _ _ e)) (not-of _ (eq-eqb _ _ f)))
+    from-21 = goes-on _ 20 _ recent
 
-    pub frames-full : frames ≡ greatestFrame + 1 → 31 ≡ imageTest l frames
-    frames-full g = sym (both-even ∙ met _ 31 (eq-eqb frames (greatestFrame + 1) g))
+    pub odd-index : (l .index % 8 ≡ 0 → ⊥) → 21 ≡ imageTest l frames
+    odd-index f = sym (from-21 ∙ decides _ 20 _ (left-holds (not (eqb (l .index % 8) 0)) _ (rw (ne-eqb (l .index % 8) 0 f))))
 
-    pub image-good : (frames ≡ greatestFrame + 1 → ⊥) → 0 ≡ imageTest l frames
-    image-good g = sym (both-even ∙ passed _ 31 (ne-eqb frames (greatestFrame + 1) g))
+    pub odd-names : l .index % 8 ≡ 0 → (l .namelist % 8 ≡ 0 → ⊥) → 21 ≡ imageTest l frames
+    odd-names e f =
+        sym (from-21
+        ∙ decides _ 20 _ (right-decides (not (eqb (l .index % 8) 0)) _ (not-of _ (eq-eqb (l .index % 8) 0 e)) ∙ rw (ne-eqb (l .namelist % 8) 0 f)))
+
+    module _ (e : l .index % 8 ≡ 0) (f : l .namelist % 8 ≡ 0) where
+      both-even : imageTest l frames ≡ (eqb frames (greatestFrame + 1) ⇒ 31)
+      both-even = from-21
+          ∙ goes-on _ 21 _ (neither-of (not (eqb (l .index % 8) 0)) (not (eqb (l .namelist % 8) 0)) (not-of _ (eq-eqb _ _ e)) (not-of _ (eq-eqb _ _ f)))
+
+      pub frames-full : frames ≡ greatestFrame + 1 → 31 ≡ imageTest l frames
+      frames-full g = sym (both-even ∙ met _ 31 (eq-eqb frames (greatestFrame + 1) g))
+
+      pub image-good : (frames ≡ greatestFrame + 1 → ⊥) → 0 ≡ imageTest l frames
+      image-good g = sym (both-even ∙ passed _ 31 (ne-eqb frames (greatestFrame + 1) g))

@@ -1,12 +1,12 @@
 -- What the planner goes by, test by test, and what it answers.
 use Prim.Native.Nat.{ℕ, _+_, _*_, _≤_, _<_}
 use mathlib.Core.Path.{_≡_}
-use mathlib.Core.Bool.{cond}
+use mathlib.Core.Bool.{false, cond}
 use mathlib.Core.List.{List, [], _∷_, _++_}
 use lib.ListN.{length}
 use lib.Dec.{eqb}
 use Rattle.gsd_format.specs.declared.Layout.{Layout}
-use Rattle.gsd_format.specs.Header.{greatestLength}
+use Rattle.gsd_format.specs.Header.{v10, greatestLength}
 use Rattle.gsd_format.specs.Entries.{framesOf, chunksEnd}
 use Rattle.gsd_format.specs.Opening.{verdict}
 use Rattle.gsd_stores.specs.View.{viewOf, namesEnd, indexEnd, namelistEnd}
@@ -24,9 +24,10 @@ use Rattle.gsd_matched.specs.Matches.{Matches}
 abbrev pub planned : List ℕ → List ℕ → Plan
 planned x sheet = planOf (viewOf x) (rowsOf sheet)
 
--- what is seen of an image that opens
+-- what is seen of an image that opens and may be appended to
 pub record Sees (x : List ℕ) (s : Survey) : Type 0 where
   pub opens : verdict x ≡ 0
+  pub recent : v10 (s .layout .version) ≡ false
   pub layout : s .layout ≡ viewOf x .layout
   pub entries : s .entries ≡ length (viewOf x .entries)
   pub frames : s .frames ≡ framesOf (viewOf x .entries)

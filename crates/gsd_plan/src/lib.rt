@@ -4,6 +4,7 @@ mod put;
 
 use gsd_bytes::GREATEST_FRAME;
 use gsd_bytes::MOST_NAMES;
+use gsd_bytes::is_10;
 use gsd_format::Layout;
 use gsd_ids::NewNames;
 use gsd_ids::find_ids;
@@ -19,7 +20,9 @@ use gsd_sheet::sheet_rows;
 use put::block_at;
 use put::put_numbers;
 ghost use mathlib.Core.Path.{_≡_};
+ghost use mathlib.Core.Bool.{false};
 ghost use lib.ListN.{length};
+ghost use Rattle.gsd_format.specs.Header.{v10};
 ghost use Rattle.gsd_stores.specs.Sheet.{sheetTest};
 ghost use Rattle.gsd_stores.specs.Append.{imageTest, roomTest, planTest, appendTest};
 ghost use Rattle.gsd_open.specs.Surveys.{Surveyed};
@@ -65,6 +68,7 @@ fn plan_names(
 ) -> u64
     requires surveyed { ⌜ Surveyed (now image) (now starts) survey ⌝ }
     requires opens { ⌜ survey .number ≡ 0 ⌝ }
+    requires recent { ⌜ v10 (survey .layout .version) ≡ false ⌝ }
     requires accepted { ⌜ sheetTest (survey .layout .version) (now sheet) ≡ 0 ⌝ }
     requires long { ⌜ length (now plan) ≡ planWords ⌝ }
     requires located { ⌜ Located (now sheet) (now plan) ⌝ }
@@ -78,10 +82,13 @@ fn plan_names(
     plan_rows(image, sheet, survey, new, plan)
 }
 
-// 21 and 31: the append's tests of an image that opens.
+// 20, 21 and 31: the append's tests of an image that opens.
 fn image_number(l: Layout, frames: u64) -> u64
     ensures { λ r. ⌜ r ≡ imageTest l frames ⌝ }
 {
+    if is_10(l.version) {
+        return 20;
+    }
     if l.index % 8 != 0 {
         return 21;
     }

@@ -2,31 +2,32 @@
 -- search.
 use Prim.Native.Nat.{ℕ, _+_, _*_, _≤_, _<_}
 use mathlib.Core.Path.{_≡_, refl, sym, _∙_, ap}
+use mathlib.Core.Bool.{Bool}
 use mathlib.Core.List.{List}
 use native.Mathlib.Omega.{arith}
 use lib.ListN.{length}
 use Rattle.gsd_format.specs.declared.Opening.{Opening}
 use Rattle.gsd_format.specs.declared.Listed.{Listed}
 use Rattle.gsd_format.specs.declared.Place.{Place}
-use Rattle.gsd_format.specs.Header.{layoutOf}
+use Rattle.gsd_format.specs.Header.{v10, layoutOf}
 use Rattle.gsd_format.specs.Names.{namesOf, indexOf}
 use Rattle.gsd_format.specs.Entries.{entryAt, slotsAt, entriesOf, framesOf}
 use Rattle.gsd_format.specs.Opening.{verdict, countsOf, opening}
 use Rattle.gsd_format.specs.Lookup.{nthEntry, nthName, findEntry, lookup}
 use Rattle.gsd_format.specs.Search.{probed, searched}
 use Rattle.gsd_format.specs.Calls.{searchTest, probesOf}
-use Rattle.gsd_format.proofs.Entries.{image-entries, image-slots}
+use Rattle.gsd_format.proofs.Entries.{ShortIds, image-entries, image-slots}
 use Rattle.gsd_format.proofs.Verdict.{verdict-zero, opening-open}
 use Rattle.gsd_format.proofs.Lookup.{look-frame, look-name, look-entry, opened-lookup, refused-lookup}
 use Rattle.gsd_format.proofs.Lookup.{opened-entry, opened-no-entry, opened-name, opened-no-name}
 use Rattle.gsd_format.proofs.Search.{searched-finds}
 use Rattle.gsd_format.proofs.Probes.{search-zero, probes-none, probes-some}
 use Rattle.gsd_open.specs.declared.survey.Survey.{Survey}
-use Rattle.gsd_names.specs.NameLists.{partAt, namesIn}
+use Rattle.gsd_names.specs.NameLists.{partAt, namesIn, Spans}
 use Rattle.gsd_open.specs.Surveys.{Surveyed}
 use Rattle.gsd_open.proofs.Surveys as survey
 use Rattle.gsd_search.specs.declared.probing.Query.{Query}
-use Rattle.gsd_search.specs.Queries.{slotsFor, probesFor, Fits}
+use Rattle.gsd_search.specs.Queries.{slotsFor, probesFor, answerFor, Fits}
 
 -- what a search answers of an image: its lookup, and how many probes that makes
 abbrev pub Told : List ℕ → ℕ → List ℕ → Listed → ℕ → Type 0
@@ -72,9 +73,14 @@ module _ (img starts : List ℕ) (s : Survey) (told : Surveyed img starts s) (go
   no-entry n h = opened-no-entry img opens n (omega (arith, told .entries good))
 
   -- the n-th name
-  pub name-there : (n : ℕ) → n < s .names .count → nthName img n ≡ Place.At (partAt starts n)
-  name-there n h =
-      opened-name img opens n (omega (arith, survey.many-parts img starts s told good)) ∙ ap Place.At (survey.kept-part img starts s told good n h)
+  pub name-there : (v : Bool) → v ≡ v10 (s .layout .version) → (n : ℕ) → n < s .names .count → nthName img n ≡ Place.At (partAt v starts n)
+  name-there v is n h =
+      opened-name img opens n (omega (arith, survey.many-parts img starts s told good))
+      ∙ ap Place.At (survey.kept-part img starts s told good n h ∙ ap (λ v. partAt v starts n) (sym is))
+
+  -- the names' places, as they are told to be of 1.0 or not
+  pub spans-there : (v : Bool) → v ≡ v10 (s .layout .version) → Spans v starts (s .names .count) (length img)
+  spans-there v is = rw is (survey.spans img starts s told good)
 
   pub no-name : (n : ℕ) → s .names .count ≤ n → nthName img n ≡ Place.Refused 44
   no-name n h = opened-no-name img opens n (omega (arith, survey.many-parts img starts s told good))
@@ -88,9 +94,10 @@ module _ (img starts : List ℕ) (s : Survey) (told : Surveyed img starts s) (go
     )
 
     -- id is what the search for the name answers
-    module _ (id : ℕ) (sought : id ≡ indexOf name (namesIn img starts (s .names .count))) (there : frame < s .frames) where
+    module _ (v : Bool) (is : v ≡ v10 (s .layout .version)) (id : ℕ) (sought : id ≡ indexOf name (namesIn v img starts (s .names .count)))
+        (there : frame < s .frames) where
       place : indexOf name (namesOf img) ≡ id
-      place = sym (sought ∙ ap (indexOf name) (survey.kept-names img starts s told good))
+      place = sym (sought ∙ ap (λ v. indexOf name (namesIn v img starts (s .names .count))) is ∙ ap (indexOf name) (survey.kept-names img starts s told good))
 
       pub not-listed : s .names .count ≤ id → Told img frame name (Listed.Refused 41) 0
       not-listed h = (
@@ -101,7 +108,7 @@ module _ (img starts : List ℕ) (s : Survey) (told : Surveyed img starts s) (go
 
       module _ (listed : id < s .names .count) where
         abbrev query : Query
-        query = record { index = s .layout .index; count = s .entries; frame = frame; id = id }
+        query = record { index = s .layout .index; count = s .entries; version = s .layout .version; frame = frame; id = id }
 
         pub query-fits : Fits img query
         query-fits =
@@ -119,14 +126,22 @@ module _ (img starts : List ℕ) (s : Survey) (told : Surveyed img starts s) (go
         entries : slotsFor img query ≡ entriesOf img
         entries = (λ i. slotsAt img (survey.index-there img starts s told good i) (told .entries good i)) ∙ image-slots img
 
-        pub look-on : (answer : Listed) (probes : ℕ) → answer ≡ searched frame id (slotsFor img query) → probes ≡ length (probesFor img query) →
+        version : s .layout .version ≡ layoutOf img .version
+        version = ap (λ l. l .version) (told .layout good)
+
+        ids : ShortIds (entriesOf img)
+        ids i l = omega (arith, many-names, survey.few-names img starts s told good, verdict-zero img .0 opens .sound i l .named)
+
+        pub look-on : (answer : Listed) (probes : ℕ) → answer ≡ answerFor img query → probes ≡ length (probesFor img query) →
             Told img frame name answer probes
         look-on answer probes a n =
             let here : frame < framesOf (entriesOf img) = omega (arith, told .frames good) in
             let known : indexOf name (namesOf img) < length (namesOf img) = omega (arith, place, many-names) in (
-              a ∙ ap (searched frame id) entries ∙ searched-finds frame id (entriesOf img) (verdict-zero img .0 opens .ordered)
+              a ∙ (λ i. searched (version i) frame id (entries i))
+                  ∙ searched-finds (layoutOf img .version) frame id (entriesOf img) (verdict-zero img .0 opens .arranged) ids (query-fits .short)
                   ∙ ap (λ k. findEntry frame k (entriesOf img)) (sym place)
                   ∙ sym (opened-lookup img opens frame name ∙ look-entry (entriesOf img) (namesOf img) frame name here known),
-              n ∙ ap (λ es. length (probed frame id es)) entries ∙ ap (λ k. length (probed frame k (entriesOf img))) (sym place)
+              n ∙ (λ i. length (probed (version i) frame id (entries i)))
+                  ∙ ap (λ k. length (probed (layoutOf img .version) frame k (entriesOf img))) (sym place)
                   ∙ ap length (sym (probes-some img frame name (search-zero img frame name .1 (opens, here, known)))),
             )

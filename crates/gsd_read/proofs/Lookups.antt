@@ -15,12 +15,13 @@ use Rattle.gsd_format.specs.Header.{layoutOf}
 use Rattle.gsd_format.specs.Types.{chunkSize}
 use Rattle.gsd_format.specs.Names.{nameParts, namesOf}
 use Rattle.gsd_format.specs.Entries.{entriesOf}
-use Rattle.gsd_format.specs.Opening.{verdict}
+use Rattle.gsd_format.specs.Opening.{openName, verdict}
 use Rattle.gsd_format.specs.Lookup.{nowhere, nthName, lookup, placed, chunkPlace, bytesAt}
 use Rattle.gsd_format.specs.Elements.{elementIn, element}
-use Rattle.gsd_format.proofs.Lists.{each-at}
+use Rattle.gsd_format.proofs.Lists.{Each, each-at}
 use Rattle.gsd_format.proofs.Types.{known-sized}
-use Rattle.gsd_format.proofs.Names.{Lies, parts-within}
+use Rattle.gsd_format.proofs.Names.{Lies, parts-of-block, names-of-block, names-pass}
+use Rattle.gsd_format.proofs.Segments.{parts-within}
 use Rattle.gsd_format.proofs.Verdict.{Sound, verdict-zero}
 use Rattle.gsd_format.proofs.Lookup.{find-sound, look-found, opened-lookup, opened-name, opened-no-name, refused-name, found-opens}
 use Rattle.gsd_open.specs.Index.{Capped}
@@ -58,7 +59,10 @@ name-inside img n = go (verdict img) refl (decLt n (length (nameParts img)))
   where
     go : (v : ℕ) → verdict img ≡ v → Dec (n < length (nameParts img)) → Inside img (nthName img n)
     go zero e (yes l) =
-        let lies = each-at (Lies img (layoutOf img .namelist) (64 * layoutOf img .segments)) (nameParts img) nowhere (parts-within img) n l in
+        let closed = names-pass img (layoutOf img) (namesOf img) (verdict-zero img .0 e .names) .0 in
+        let within : Each (Lies img (layoutOf img .namelist) (64 * layoutOf img .segments)) (nameParts img) =
+        rw (parts-of-block img) (parts-within img (layoutOf img) (ap (openName img (layoutOf img)) (sym (names-of-block img)) ∙ closed)) in
+        let lies = each-at (Lies img (layoutOf img .namelist) (64 * layoutOf img .segments)) (nameParts img) nowhere within n l in
         rw (opened-name img e n l) (omega (arith, lies .high, verdict-zero img .0 e .blocks .namelistHigh, layout-length img (layoutOf img) refl))
     go zero e (no l) = rw (opened-no-name img e n (omega arith)) tt
     go (suc k) e l = rw (refused-name img k e n) tt

@@ -1,5 +1,6 @@
 // What is found in an image: its counts, the n-th entry and name, the entry of a frame and a name, its chunk and elements.
 use gsd_bytes::SLOT_SIZE;
+use gsd_bytes::is_10;
 use gsd_elements::element_in;
 use gsd_format::Counts;
 use gsd_format::Element;
@@ -79,7 +80,7 @@ pub fn name(image: &[u8], n: u64) -> Place
     if s.names.count as u64 <= n {
         return Place::Refused(44);
     }
-    Place::At(name_part(&starts, n as usize))
+    Place::At(name_part(&starts, is_10(s.layout.version), n as usize))
 }
 
 // The bytes from start up to end, where they lie.
@@ -138,7 +139,7 @@ pub fn search(image: &[u8], frame: u64, name: &[u8]) -> Searched
         return unsought(40);
     }
     let count = s.names.count;
-    let id = name_id(image, &starts, count, name);
+    let id = name_id(image, &starts, is_10(s.layout.version), count, name);
     if count <= id {
         return unsought(41);
     }
@@ -147,6 +148,7 @@ pub fn search(image: &[u8], frame: u64, name: &[u8]) -> Searched
         Query {
             index: s.layout.index,
             count: s.entries,
+            version: s.layout.version,
             frame,
             id: id as u64,
         },

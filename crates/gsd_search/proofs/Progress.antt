@@ -1,27 +1,31 @@
--- The halving on its way: the next probe, what is left after it, the end; and the last probe behind it.
+-- The halving and the walk on their way: the next probe, what is left after it, the ends.
 use Prim.Native.Nat.{ℕ, suc, _+_, _-_, _/_, _^_, _≤_, _<_}
-use mathlib.Core.Path.{_≡_, sym, _∙_, ap}
-use mathlib.Core.Bool.{Bool, true, false, _&&_}
+use mathlib.Core.Path.{_≡_, refl, sym, _∙_, ap}
+use mathlib.Core.Bool.{Bool, true, false}
 use mathlib.Core.List.{List, [], _∷_, _++_}
 use native.Mathlib.Nat.{sub-zero}
 use native.Mathlib.Numerals.{add-one}
 use native.Mathlib.Omega.{arith}
-use lib.ListN.{length, getD, drop, length-append, length-drop, List·getD-append}
-use lib.Seq.{drop-cons, getD-append-seam}
+use lib.ListN.{length, getD, drop, length-append, length-take, length-drop, drop-of-length-le, List·getD-append}
+use lib.Seq.{drop-cons, getD-drop, getD-append-add}
 use lib.Ieee.Digits.{size-le}
-use lib.Dec.{ltb, eqb}
+use lib.Dec.{ltb}
+use borrow.Author.Count.{below-more}
 use borrow.Author.Tests.{ltb-true, ltb-false}
 use Rattle.gsd_format.specs.declared.Entry.{Entry}
 use Rattle.gsd_format.specs.declared.Listed.{Listed}
+use Rattle.gsd_format.specs.Header.{v10}
 use Rattle.gsd_format.specs.Entries.{keyOf, key}
-use Rattle.gsd_format.specs.Lookup.{none, findEntry}
-use Rattle.gsd_format.specs.Search.{Halved, ended, probing, halve, halved, lastProbe, probed, searched}
+use Rattle.gsd_format.specs.Lookup.{none}
+use Rattle.gsd_format.specs.Search.{Halved, ended, probing, halve, firstId, halved, Walk, stopped, walk, walked, probed, searched}
 use Rattle.gsd_format.proofs.Lists.{each-at}
 use Rattle.gsd_format.proofs.Entries.{slots-length}
 use Rattle.gsd_format.proofs.Search.{halve-none, halve-probe, halve-right, halve-left}
-use Rattle.gsd_format.proofs.Search.{probed-there, probed-end, probed-within, probed-few, searched-end, searched-there}
+use Rattle.gsd_format.proofs.Search.{Passes, walk-end, walk-here, walk-other, walk-numbers, walk-passes, walk-reads}
+use Rattle.gsd_format.proofs.Search.{spread-most, reach-10, reach-recent, reach-most, reach-at, ahead, halved-ends, probed-parts}
+use Rattle.gsd_format.proofs.Search.{probed-within, probed-few, searched-walks}
 use Rattle.gsd_search.specs.declared.probing.Query.{Query}
-use Rattle.gsd_search.specs.Queries.{slotsFor, probesFor, Fits, Next}
+use Rattle.gsd_search.specs.Queries.{slotsFor, halvedFor, walkEnd, probesFor, Fits, Next}
 
 -- a list from a number on: what stands first there, and what follows
 from-on : (l : List ℕ) (k x : ℕ) (xs : List ℕ) → drop k l ≡ x ∷ xs → (k < length l) × (getD l k 0 ≡ x) × (drop (k + 1) l ≡ xs)
@@ -38,46 +42,50 @@ module _ (img : List ℕ) (q : Query) (made i : ℕ) (h : Next (probesFor img q)
         arith,
         h .next,
         slots-length (q .count) img (q .index),
-        each-at (λ j. j < length (slotsFor img q)) (probesFor img q) 0 (probed-within (q .frame) (q .id) (slotsFor img q)) made (h .more),
+        each-at (λ j. j < length (slotsFor img q)) (probesFor img q) 0 (probed-within (q .version) (q .frame) (q .id) (slotsFor img q)) made (h .more),
       )
 
-  pub next-few : q .count < 2 ^ 64 → made + 1 ≤ 65
+  pub next-few : q .count < 2 ^ 64 → made + 1 ≤ 65 + q .count
   next-few l =
       omega (
         arith,
         h .more,
-        probed-few (q .frame) (q .id) (slotsFor img q),
+        probed-few (q .version) (q .frame) (q .id) (slotsFor img q),
+        spread-most (q .version) (q .frame) (slotsFor img q),
         size-le (length (slotsFor img q)) 64 (omega (arith, slots-length (q .count) img (q .index))),
+        slots-length (q .count) img (q .index),
       )
 
-module _ (frame id : ℕ) (es : List Entry) where
+module _ (version frame id : ℕ) (es : List Entry) where
   abbrev whole : Halved
-  whole = halved frame id es
+  whole = halved version frame id es
+
+  abbrev aim : ℕ
+  aim = keyOf frame (firstId version id)
 
   -- after so many probes the n entries from lo are left to halve
   pub record Halving (lo n made : ℕ) : Type 0 where
     pub within : lo + n ≤ length es
     pub steps : n + made ≤ length es
     pub few : made ≤ length (whole .probes)
-    pub probes : drop made (whole .probes) ≡ halve (length es - made) es (keyOf frame id) lo n .probes
-    pub place : whole .place ≡ halve (length es - made) es (keyOf frame id) lo n .place
+    pub probes : drop made (whole .probes) ≡ halve (length es - made) es aim lo n .probes
+    pub place : whole .place ≡ halve (length es - made) es aim lo n .place
 
   pub halving-start : (n made : ℕ) → n ≡ length es → made ≡ 0 → Halving 0 n made
   halving-start n made all none = rw (all, none) (record {
     within = omega arith;
     steps = omega arith;
     few = omega arith;
-    probes = ap (λ most. halve most es (keyOf frame id) 0 (length es) .probes) (sym (sub-zero (length es)));
-    place = ap (λ most. halve most es (keyOf frame id) 0 (length es) .place) (sym (sub-zero (length es)));
+    probes = ap (λ most. halve most es aim 0 (length es) .probes) (sym (sub-zero (length es)));
+    place = ap (λ most. halve most es aim 0 (length es) .place) (sym (sub-zero (length es)));
   })
 
   -- what is probed by the halving is probed
-  next-halved : (made i : ℕ) → made < length (whole .probes) → getD (whole .probes) made 0 ≡ i → Next (probed frame id es) made i
-  unfolding probed
-  next-halved made i l e = record {
-    more = omega (arith, length-append (whole .probes) (lastProbe (whole .place) (length es)));
+  next-halved : (made i : ℕ) → made < length (whole .probes) → getD (whole .probes) made 0 ≡ i → Next (probed version frame id es) made i
+  next-halved made i l e = rw (probed-parts version frame id es) (record {
+    more = omega (arith, length-append (whole .probes) (walked version frame id es .probes));
     next = List·getD-append (whole .probes) _ 0 made l ∙ e;
-  }
+  })
 
   module _ (lo n made : ℕ) (h : Halving lo n made) (some : 0 < n) where
     abbrev left : ℕ
@@ -87,19 +95,19 @@ module _ (frame id : ℕ) (es : List Entry) where
     fuel = omega (arith, h .steps)
 
     -- the next probe is of the entry in the middle
-    pub halving-next : Next (probed frame id es) made (lo + n / 2)
+    pub halving-next : Next (probed version frame id es) made (lo + n / 2)
     halving-next =
-        let first = halve-probe es (keyOf frame id) lo left n some in
+        let first = halve-probe es aim lo left n some in
         let on = from-on (whole .probes) made (lo + n / 2) (first .0)
-        (h .probes ∙ ap (λ most. halve most es (keyOf frame id) lo n .probes) fuel ∙ first .1) in
+        (h .probes ∙ ap (λ most. halve most es aim lo n .probes) fuel ∙ first .1) in
         next-halved made (lo + n / 2) (on .0) (on .1)
 
     step : (lo' n' : ℕ) → lo' + n' ≤ lo + n → n' < n →
-        halve (suc left) es (keyOf frame id) lo n ≡ probing (lo + n / 2) (halve left es (keyOf frame id) lo' n') → Halving lo' n' (made + 1)
+        halve (suc left) es aim lo n ≡ probing (lo + n / 2) (halve left es aim lo' n') → Halving lo' n' (made + 1)
     step lo' n' b l e =
-        let same : halve (length es - made) es (keyOf frame id) lo n ≡ probing (lo + n / 2) (halve left es (keyOf frame id) lo' n') =
-        ap (λ most. halve most es (keyOf frame id) lo n) fuel ∙ e in
-        let on = from-on (whole .probes) made (lo + n / 2) (halve left es (keyOf frame id) lo' n' .probes) (h .probes ∙ ap (λ r. r .probes) same) in
+        let same : halve (length es - made) es aim lo n ≡ probing (lo + n / 2) (halve left es aim lo' n') =
+        ap (λ most. halve most es aim lo n) fuel ∙ e in
+        let on = from-on (whole .probes) made (lo + n / 2) (halve left es aim lo' n' .probes) (h .probes ∙ ap (λ r. r .probes) same) in
         record {
           within = omega (arith, h .within);
           steps = omega (arith, h .steps);
@@ -109,27 +117,113 @@ module _ (frame id : ℕ) (es : List Entry) where
         }
 
     -- on by the entry e that was read there, the answer whether it is below, and the count
-    module _ (e : Entry) (read : e ≡ getD es (lo + n / 2) none) (r : Bool) (said : r ≡ ltb (key e) (keyOf frame id)) (count : ℕ)
+    module _ (e : Entry) (read : e ≡ getD es (lo + n / 2) none) (r : Bool) (said : r ≡ ltb (key e) aim) (count : ℕ)
         (counted : count ≡ made + 1) where
-      compared : ltb (key (getD es (lo + n / 2) none)) (keyOf frame id) ≡ r
-      compared = sym (said ∙ ap (λ a. ltb (key a) (keyOf frame id)) read)
+      compared : ltb (key (getD es (lo + n / 2) none)) aim ≡ r
+      compared = sym (said ∙ ap (λ a. ltb (key a) aim) read)
 
       pub halving-right : r ≡ true → Halving (lo + n / 2 + 1) (n - n / 2 - 1) count
       halving-right b =
           rw counted (step (lo + n / 2 + 1) (n - n / 2 - 1) (omega arith) (omega arith)
-          (halve-right es (keyOf frame id) lo left n some (ltb-true _ _ (compared ∙ b))))
+          (halve-right es aim lo left n some (ltb-true _ _ (compared ∙ b))))
 
       pub halving-left : r ≡ false → Halving lo (n / 2) count
       halving-left b =
-          rw counted (step lo (n / 2) (omega arith) (omega arith) (halve-left es (keyOf frame id) lo left n some (ltb-false _ _ (compared ∙ b))))
+          rw counted (step lo (n / 2) (omega arith) (omega arith) (halve-left es aim lo left n some (ltb-false _ _ (compared ∙ b))))
 
   pub halving-end : (lo n made : ℕ) → Halving lo n made → n ≡ 0 → (lo ≡ whole .place) × (made ≡ length (whole .probes))
   halving-end lo n made h z =
-      let none : halve (length es - made) es (keyOf frame id) lo n ≡ ended lo =
-      ap (halve (length es - made) es (keyOf frame id) lo) z ∙ halve-none es (keyOf frame id) lo (length es - made) in (
+      let none : halve (length es - made) es aim lo n ≡ ended lo =
+      ap (halve (length es - made) es aim lo) z ∙ halve-none es aim lo (length es - made) in (
         sym (h .place ∙ ap (λ r. r .place) none),
         omega (arith, h .few, sym (length-drop made (whole .probes)) ∙ ap length (h .probes ∙ ap (λ r. r .probes) none)),
       )
+
+  -- The walk, from the halving's place on: k entries were passed, each of the frame and with another id
+  pub record Walking (i made : ℕ) : Type 0 where
+    pub low : whole .place ≤ i
+    pub high : i ≤ whole .place + length (ahead version frame id es)
+    pub passes : Passes frame id (ahead version frame id es) (i - whole .place)
+    pub counted : made ≡ length (whole .probes) + (i - whole .place)
+
+  pub walking-start : (place made : ℕ) → place ≡ whole .place → made ≡ length (whole .probes) → Walking place made
+  walking-start place made at all = record {
+    low = omega arith;
+    high = omega arith;
+    passes = λ j l. absurd (omega arith);
+    counted = omega arith;
+  }
+
+  module _ (i made : ℕ) (h : Walking i made) where
+    abbrev k : ℕ
+    k = i - whole .place
+
+    -- the walk goes on from here
+    abbrev on : Walk
+    on = walk frame id (whole .place + k) (drop k (ahead version frame id es))
+
+    onward : (searched version frame id es ≡ on .answer) × (length (probed version frame id es) ≡ made + length (on .probes))
+    onward =
+        let passed = walk-passes frame id k (ahead version frame id es) (whole .place) (omega (arith, h .low, h .high)) (h .passes) in
+        let parts = ap length (probed-parts version frame id es) ∙ length-append (whole .probes) (walked version frame id es .probes) in
+        (searched-walks version frame id es ∙ passed .0, omega (arith, parts, passed .1, h .counted))
+
+    pub walking-end : whole .place + length (ahead version frame id es) ≤ i →
+        (Listed.Refused 42 ≡ searched version frame id es) × (made ≡ length (probed version frame id es))
+    walking-end l =
+        let none : on ≡ stopped [] (Listed.Refused 42) =
+        ap (walk frame id (whole .place + k)) (drop-of-length-le (ahead version frame id es) {i = k} (omega (arith, h .low))) ∙ walk-end frame id (whole .place + k) in
+        (sym (onward .0 ∙ ap (λ w. w .answer) none), omega (arith, onward .1, ap (λ w. length (w .probes)) none))
+
+    module _ (more : i < whole .place + length (ahead version frame id es)) where
+      inside : k < length (ahead version frame id es)
+      inside = omega (arith, h .low)
+
+      -- the next probe is of the entry here
+      pub walking-next : Next (probed version frame id es) made i
+      walking-next =
+          let reads = walk-reads frame id (ahead version frame id es) (whole .place) k inside (h .passes) in
+          rw (probed-parts version frame id es) (record {
+            more = omega (arith, length-append (whole .probes) (walked version frame id es .probes), h .counted);
+            next =
+                ap (λ n. getD (whole .probes ++ walked version frame id es .probes) n 0) (h .counted)
+                ∙ getD-append-add (whole .probes) (walked version frame id es .probes) k 0
+                ∙ walk-numbers frame id (ahead version frame id es) (whole .place) k reads ∙ (let q : whole .place + k ≡ i = omega (arith, h .low) in q);
+          })
+
+      -- on by the entry e that was read there, and the count
+      module _ (e : Entry) (read : e ≡ getD es i none) (count : ℕ) (counted : count ≡ made + 1) where
+        there : getD (ahead version frame id es) k none ≡ e
+        there =
+            reach-at version (drop (whole .place) es) k inside ∙ getD-drop (whole .place) es k none
+            ∙ ap (λ j. getD es j none) (let q : whole .place + k ≡ i = omega (arith, h .low) in q) ∙ sym read
+
+        here : drop k (ahead version frame id es) ≡ e ∷ drop (suc k) (ahead version frame id es)
+        here = drop-cons (ahead version frame id es) k none inside ∙ ap (λ a. a ∷ drop (suc k) (ahead version frame id es)) there
+
+        stops : (answer : Listed) →
+            walk frame id (whole .place + k) (e ∷ drop (suc k) (ahead version frame id es)) ≡ stopped ((whole .place + k) ∷ []) answer →
+            (answer ≡ searched version frame id es) × (count ≡ length (probed version frame id es))
+        stops answer w =
+            let last : on ≡ stopped ((whole .place + k) ∷ []) answer = ap (walk frame id (whole .place + k)) here ∙ w in
+            (sym (onward .0 ∙ ap (λ w. w .answer) last), omega (arith, onward .1, ap (λ w. length (w .probes)) last))
+
+        pub walking-other : (e .frame ≡ frame → ⊥) →
+            (Listed.Refused 42 ≡ searched version frame id es) × (count ≡ length (probed version frame id es))
+        walking-other f = stops (Listed.Refused 42) (walk-other frame id (whole .place + k) e _ f)
+
+        pub walking-found : e .frame ≡ frame → e .id ≡ id →
+            (Listed.Found e ≡ searched version frame id es) × (count ≡ length (probed version frame id es))
+        walking-found f d = stops (Listed.Found e) (walk-here frame id (whole .place + k) e _ f d)
+
+        pub walking-on : e .frame ≡ frame → (e .id ≡ id → ⊥) → Walking (i + 1) count
+        walking-on f d = record {
+          low = omega (arith, h .low);
+          high = omega arith;
+          passes = λ j l. below-more (λ j. (getD (ahead version frame id es) j none .frame ≡ frame) × (getD (ahead version frame id es) j none .id ≡ id → ⊥)) k
+              (h .passes) (ap (λ a. a .frame) there ∙ f, λ c. d (sym (ap (λ a. a .id) there) ∙ c)) j (omega (arith, h .low));
+          counted = omega (arith, h .counted, h .low);
+        }
 
 module _ (img : List ℕ) (q : Query) where
   abbrev es : List Entry
@@ -139,44 +233,32 @@ module _ (img : List ℕ) (q : Query) where
   slots = slots-length (q .count) img (q .index)
 
   -- no number of a slot wraps
-  pub halving-high : (lo n made : ℕ) → Fits img q → Halving (q .frame) (q .id) es lo n made → lo + n < 2 ^ 64
+  pub halving-high : (lo n made : ℕ) → Fits img q → Halving (q .version) (q .frame) (q .id) es lo n made → lo + n < 2 ^ 64
   halving-high lo n made f h = omega (arith, f .end, h .within, slots)
 
-  -- behind the halving, which ended at this place after so many probes
-  module _ (place made : ℕ) (at : (place ≡ halved (q .frame) (q .id) es .place) × (made ≡ length (halved (q .frame) (q .id) es .probes))) where
-    -- no slot stands there
-    pub search-end : q .count ≤ place → (Listed.Refused 42 ≡ searched (q .frame) (q .id) es) × (made ≡ length (probesFor img q))
-    search-end l =
-        let u : length es ≤ halved (q .frame) (q .id) es .place = omega (arith, slots) in (
-          sym (searched-end (q .frame) (q .id) es u),
-          omega (arith, ap length (probed-end (q .frame) (q .id) es u) ∙ length-append (halved (q .frame) (q .id) es .probes) []),
-        )
+  pub place-high : halvedFor img q .place ≤ q .count
+  place-high = omega (arith, halved-ends (q .version) (q .frame) (q .id) es .high, slots)
 
-    module _ (l : place < q .count) where
-      there : probesFor img q ≡ halved (q .frame) (q .id) es .probes ++ halved (q .frame) (q .id) es .place ∷ []
-      there = probed-there (q .frame) (q .id) es (omega (arith, slots))
+  -- the walk ends where the entries end that it may read
+  module _ (place : ℕ) (at : place ≡ halvedFor img q .place) (end : ℕ) (said : end ≡ walkEnd (q .version) place (q .count)) where
+    behind : length (drop (halvedFor img q .place) es) ≡ q .count - halvedFor img q .place
+    behind = length-drop (halvedFor img q .place) es ∙ ap (λ n. n - halvedFor img q .place) slots
 
-      length-there : length (probesFor img q) ≡ made + 1
-      length-there = ap length there ∙ length-append (halved (q .frame) (q .id) es .probes) _ ∙ ap (λ k. k + 1) (sym (at .1))
+    pub ahead-end : end ≡ halvedFor img q .place + length (ahead (q .version) (q .frame) (q .id) es)
+    unfolding walkEnd
+    ahead-end = said ∙ rw at (go (v10 (q .version)) refl)
+      where
+        go : (v : Bool) → v10 (q .version) ≡ v →
+            walkEnd (q .version) (halvedFor img q .place) (q .count) ≡ halvedFor img q .place + length (ahead (q .version) (q .frame) (q .id) es)
+        go true r = rw (r, walkEnd) (omega (arith, place-high, behind, ap length (reach-10 (q .version) r (drop (halvedFor img q .place) es))))
+        go false r =
+            rw (r, walkEnd) (omega (
+              arith,
+              place-high,
+              behind,
+              ap length (reach-recent (q .version) r (drop (halvedFor img q .place) es)),
+              length-take 1 (drop (halvedFor img q .place) es),
+            ))
 
-      -- one does: it is the last probe
-      pub search-next : Next (probesFor img q) made place
-      search-next = record {
-        more = omega (arith, length-there);
-        next =
-            ap (λ ps. getD ps made 0) there ∙ ap (λ k. getD (halved (q .frame) (q .id) es .probes ++ halved (q .frame) (q .id) es .place ∷ []) k 0) (at .1)
-            ∙ getD-append-seam (halved (q .frame) (q .id) es .probes) (halved (q .frame) (q .id) es .place) [] 0 ∙ sym (at .0);
-      }
-
-      -- and decides, by the entry e that was read there, the answer whether it matches, and the count
-      module _ (e : Entry) (read : e ≡ getD es place none) (r : Bool) (said : r ≡ (eqb (e .frame) (q .frame) && eqb (e .id) (q .id))) (count : ℕ)
-          (counted : count ≡ made + 1) where
-        pub search-decided : (b : Bool) → r ≡ b →
-            (elim b [ true ↦ Listed.Found e | false ↦ Listed.Refused 42 ] ≡ searched (q .frame) (q .id) es) × (count ≡ length (probesFor img q))
-        unfolding findEntry
-        search-decided b h = (
-          ap (λ t. elim t [ true ↦ Listed.Found e | false ↦ Listed.Refused 42 ]) (sym h ∙ said)
-              ∙ ap (λ a. findEntry (q .frame) (q .id) (a ∷ [])) (read ∙ ap (λ i. getD es i none) (at .0))
-              ∙ sym (searched-there (q .frame) (q .id) es (omega (arith, slots))),
-          counted ∙ sym length-there,
-        )
+    pub end-high : end ≤ q .count
+    end-high = omega (arith, ahead-end, behind, place-high, reach-most (q .version) (drop (halvedFor img q .place) es))

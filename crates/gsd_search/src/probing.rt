@@ -8,10 +8,11 @@ ghost use lib.ListN.{getD};
 ghost use Rattle.gsd_format.specs.Lookup.{none};
 ghost use Rattle.gsd_search.specs.Queries.{slotsFor, probesFor, Fits, Next};
 
-// What is sought, and where: the entry of a frame and an id, in count slots from index on.
+// What is sought, and where: the entry of a frame and an id, in count slots from index on, in the order of a version.
 pub struct Query {
     pub index: u64,
     pub count: u64,
+    pub version: u64,
     pub frame: u64,
     pub id: u64,
 }

@@ -119,6 +119,7 @@ restage {x₀} {v} {d} {t} {x} {y} {l} {ns} low off r s = record {
   base = record {
     is = record {
       layout = r .layout;
+      recent = rw version (s .base .is .recent);
       front = front-same x y (sym (r .long)) (λ p a b. sym (r .outside p b (λ c e. omega arith))) (s .base .is .front);
       blocks = record {
         indexLow = r .index .low;

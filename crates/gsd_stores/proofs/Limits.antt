@@ -1,14 +1,20 @@
--- What an append's limit and its refusal do: a refused append changes nothing and reports 0 and 0, limit 0 changes nothing, and
--- the image after k stores of a call is what the same call with limit k leaves.
+-- What an append's limit and its refusal do: a refused append changes nothing and reports 0 and 0, as every one on an image of
+-- 1.0; limit 0 changes nothing, and the image after k stores of a call is what the same call with limit k leaves.
 use Prim.Native.Nat.{ℕ, suc, _≤_, min}
-use mathlib.Core.Path.{_≡_, sym, _∙_, ap}
-use mathlib.Core.List.{List, []}
+use mathlib.Core.Path.{_≡_, refl, sym, _∙_, ap}
+use mathlib.Core.Bool.{true}
+use mathlib.Core.List.{List, [], _∷_}
 use native.Mathlib.Decide.{decLe}
 use native.Mathlib.Omega.{arith}
 use lib.ListN.{length, take}
 use lib.Seq.{take-all, take-nil}
+use Rattle.gsd_format.specs.Header.{v10, versionOf, layoutOf}
+use Rattle.gsd_format.specs.Opening.{verdict}
+use Rattle.gsd_format.proofs.Refusals.{first-of, ▹-assoc, decides}
 use Rattle.gsd_stores.specs.Stores.{Store, after}
-use Rattle.gsd_stores.specs.Append.{appendTest, storesFor, appendAnswer, appended}
+use Rattle.gsd_stores.specs.View.{viewOf}
+use Rattle.gsd_stores.specs.Append.{imageTest, appendTest, storesFor, appendAnswer, appended}
+use Rattle.gsd_stores.specs.Runs.{Call, afterRun}
 
 stores-none : (x s : List ℕ) (n : ℕ) → appendTest x s ≡ suc n → storesFor x s ≡ []
 unfolding storesFor
@@ -38,6 +44,18 @@ refused-answer x s limit n e =
     let none : length (storesFor x s) ≡ 0 = ap length (stores-none x s n e) in
     let done : min limit (length (storesFor x s)) ≡ 0 = omega arith in
     λ i. record { number = e i; done = done i; whole = none i }
+
+-- an image of 1.0 takes no append: 20, also where 21 or a later number holds
+pub refused-10 : (x s : List ℕ) → verdict x ≡ 0 → v10 (versionOf x) ≡ true → appendTest x s ≡ 20
+unfolding appendTest imageTest viewOf layoutOf
+refused-10 x s o r = first-of _ _ o ∙ ▹-assoc _ _ _ ∙ decides _ 19 _ r
+
+-- and so no run changes it
+pub run-10 : (cs : List Call) (x : List ℕ) → verdict x ≡ 0 → v10 (versionOf x) ≡ true → afterRun x cs ≡ x
+unfolding afterRun
+run-10 [] x o r = refl
+run-10 (c ∷ cs) x o r =
+    ap (λ y. afterRun y cs) (refused-image x (c .sheet) (c .limit) 19 (refused-10 x (c .sheet) o r)) ∙ run-10 cs x o r
 
 -- limit 0 changes nothing, and is no refusal: the whole count is answered
 pub none-image : (x s : List ℕ) → appended x s 0 ≡ x

@@ -71,10 +71,10 @@ module _ (x : List ℕ) (rs : List Row) (ok : Valid x rs) where
   r = ready x rs ok
 
   begins : Is x v
-  begins = opens-shown x (ok .opens)
+  begins = opens-shown x (ok .opens) (ok .recent)
 
   legal : Legal v
-  legal = opens-legal x (ok .opens)
+  legal = opens-legal x (ok .opens) (ok .recent)
 
   -- some of the new names and no new entry
   names-some : (j : ℕ) → (length (v .names ++ take j (p .fresh)) ≤ mostNames) × Distinct (v .names ++ take j (p .fresh))

@@ -118,6 +118,7 @@ module _ (v : View) {x y : List ℕ} (new : List Entry) (few : length (v .entrie
       Is y (withEntries v (v .entries ++ new))
   entries-listed h clear sound exact = record {
     layout = layout-same y x (o .long) (λ k l. o .below (8 + k) (omega arith)) ∙ h .layout;
+    recent = h .recent;
     front = front-same x y (sym (o .long)) (λ p l u. sym (o .below p (omega arith))) (h .front);
     blocks = h .blocks;
     entries = entries-grown y (v .layout .index) (v .layout .slots) (v .entries) new

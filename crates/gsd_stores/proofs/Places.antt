@@ -115,7 +115,7 @@ module _ (x : List ℕ) (rs : List Row) (ok : Valid x rs) where
   r = ready x rs ok
 
   is : Is x v
-  is = opens-shown x (ok .opens)
+  is = opens-shown x (ok .opens) (ok .recent)
 
   index-placed : AllPlaced (v .layout .len) (clearIndex v)
   unfolding clearIndex

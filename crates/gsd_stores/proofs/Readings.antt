@@ -60,7 +60,8 @@ module _ (img sheet : List ℕ) where
   unfolding earlierTest imageTest formTest
   not-earlier =
       first-not 30 _ _ (λ e. omega (arith, e, verdict-most img))
-      (first-not 30 _ _ (other _ 21 _ (λ e. omega (arith, e)) (test-not 30 _ 31 (omega arith) (λ e. omega (arith, e))))
+      (first-not 30 _ _ (other _ 20 _ (λ e. omega (arith, e)) (other _ 21 _ (λ e. omega (arith, e))
+      (test-not 30 _ 31 (omega arith) (λ e. omega (arith, e)))))
       (other _ 22 _ (λ e. omega (arith, e)) (other _ 23 _ (λ e. omega (arith, e)) (other _ 24 _ (λ e. omega (arith, e))
       (other _ 25 _ (λ e. omega (arith, e)) (other _ 26 _ (λ e. omega (arith, e)) (test-not 30 _ 27 (omega arith) (λ e. omega (arith, e)))))))))
 

@@ -1,26 +1,29 @@
--- Two images by what they show: an image opens exactly when what it shows is legal, and one that shows the same entries and
--- names, and perhaps more behind them, keeps what the other has.
+-- Two images by what they show: an image of 2.x opens exactly when what it shows is legal, and one that shows the same
+-- entries and names, and perhaps more behind them, keeps what the other has.
 use Prim.Native.Nat.{ℕ, _+_, _*_, _≤_, _<_}
 use mathlib.Core.Path.{_≡_, refl, sym, _∙_, ap}
-use mathlib.Core.List.{List, _++_}
+use mathlib.Core.Bool.{false}
+use mathlib.Core.List.{List, [], _++_}
 use native.Mathlib.Omega.{arith}
 use lib.ListN.{length, getD, length-append}
 use Rattle.gsd_format.specs.declared.Entry.{Entry}
 use Rattle.gsd_format.specs.Bytes.{part}
 use Rattle.gsd_format.specs.Types.{chunkSize}
-use Rattle.gsd_format.specs.Header.{layoutOf}
+use Rattle.gsd_format.specs.Header.{v10, layoutOf}
 use Rattle.gsd_format.specs.Names.{namesOf, indexOf, Distinct}
 use Rattle.gsd_format.specs.Entries.{entriesOf, framesOf}
 use Rattle.gsd_format.specs.Opening.{verdict, mostNames}
 use Rattle.gsd_format.specs.Lookup.{none, lookup, lookupIn, chunkOf}
 use Rattle.gsd_format.proofs.Bytes.{Same, same-from, part-same}
 use Rattle.gsd_format.proofs.Ids.{index-append, index-back, has-front}
-use Rattle.gsd_format.proofs.Names.{names-pass, pass-names, namesOf-are, zero-closed}
+use Rattle.gsd_format.proofs.Names.{names-pass, pass-names, namesOf-are, open-recent, zero-closed}
 use Rattle.gsd_format.proofs.Entries.{Ordered, image-entries}
+use Rattle.gsd_format.proofs.Arranged.{leastOf, arranged-ordered}
 use Rattle.gsd_format.proofs.Verdict.{Opens, verdict-zero}
 use Rattle.gsd_format.proofs.Lookup.{Stands, find-sound, look-found, look-kept, look-back, opened-lookup}
 use Rattle.gsd_stores.specs.View.{View, viewOf}
 use Rattle.gsd_stores.specs.Runs.{frames}
+use Rattle.gsd_stores.proofs.Valid.{opens-ordered}
 use Rattle.gsd_stores.proofs.View.{Is, is-long, view-is, Chunks}
 use Rattle.gsd_stores.proofs.Keep.{Keep}
 
@@ -40,27 +43,37 @@ module _ {x : List ℕ} {v : View} (h : Is x v) where
   shown-names = ap (λ u. u .names) (view-is x v h)
 
 pub shown-opens : {x : List ℕ} {v : View} → Is x v → Legal v → verdict x ≡ 0
+unfolding leastOf
 shown-opens {x} {v} h g = verdict-zero x .1 (record {
   front = h .front;
   blocks = rw (h .layout) (h .blocks);
-  names = rw (h .layout, shown-names h) (pass-names x (v .layout) (v .names) (zero-closed x (v .layout) (v .names) (h .names .closed)) (g .few) (g .distinct));
+  names = rw (h .layout, shown-names h) (pass-names x (v .layout) (v .names)
+      (open-recent x (v .layout) (v .names) (h .recent) ∙ zero-closed x (v .layout) (v .names) (h .names .closed)) (g .few) (g .distinct));
   sound = rw (h .layout, shown-names h, shown-entries h) (h .sound);
-  ordered = rw (shown-entries h) (g .ordered);
+  arranged = rw (h .layout, shown-entries h) (arranged-ordered (v .entries) (v .layout .version) [] (h .recent) .1 (g .ordered));
 })
 
-pub opens-shown : (x : List ℕ) → verdict x ≡ 0 → Is x (viewOf x)
+pub opens-shown : (x : List ℕ) → verdict x ≡ 0 → v10 (viewOf x .layout .version) ≡ false → Is x (viewOf x)
 unfolding viewOf
-opens-shown x o =
+opens-shown x o r =
     let p : Opens x = verdict-zero x .0 o in
     let n = names-pass x (layoutOf x) (namesOf x) (p .names) in
-    record { layout = refl; front = p .front; blocks = p .blocks; entries = image-entries x; names = namesOf-are x (n .0); sound = p .sound }
+    record {
+      layout = refl;
+      recent = r;
+      front = p .front;
+      blocks = p .blocks;
+      entries = image-entries x;
+      names = namesOf-are x r (sym (open-recent x (layoutOf x) (namesOf x) r) ∙ n .0);
+      sound = p .sound;
+    }
 
-pub opens-legal : (x : List ℕ) → verdict x ≡ 0 → Legal (viewOf x)
+pub opens-legal : (x : List ℕ) → verdict x ≡ 0 → v10 (viewOf x .layout .version) ≡ false → Legal (viewOf x)
 unfolding viewOf
-opens-legal x o =
+opens-legal x o r =
     let p : Opens x = verdict-zero x .0 o in
     let n = names-pass x (layoutOf x) (namesOf x) (p .names) in
-    record { few = n .1; distinct = n .2; ordered = p .ordered }
+    record { few = n .1; distinct = n .2; ordered = opens-ordered x p r }
 
 -- b shows what a shows, and behind it more entries, of new frames, and more names
 pub record Extends (a b : List ℕ) (u w : View) (more : List Entry) (ms : List (List ℕ)) : Type 0 where

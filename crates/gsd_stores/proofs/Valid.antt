@@ -2,7 +2,7 @@
 use Prim.Native.Nat.{ℕ, _+_, _*_, _-_, _^_, _%_, _≤_, _<_}
 use mathlib.Core.Path.{_≡_, refl, sym, _∙_, ap}
 use mathlib.Core.Bool.{Bool, true, false, not, cond}
-use mathlib.Core.List.{List, _++_}
+use mathlib.Core.List.{List, [], _++_}
 use native.Mathlib.Nat.{add-zero}
 use native.Mathlib.Omega.{arith}
 use lib.ListN.{length, getD, length-append}
@@ -12,7 +12,7 @@ use Rattle.gsd_format.specs.declared.Entry.{Entry}
 use Rattle.gsd_format.specs.declared.Layout.{Layout}
 use Rattle.gsd_format.specs.Bytes.{part, Apart}
 use Rattle.gsd_format.specs.Types.{known, chunkSize}
-use Rattle.gsd_format.specs.Header.{greatestLength, layoutOf}
+use Rattle.gsd_format.specs.Header.{greatestLength, v10, layoutOf}
 use Rattle.gsd_format.specs.Names.{namesOf, Distinct}
 use Rattle.gsd_format.specs.Entries.{entriesOf, framesOf}
 use Rattle.gsd_format.specs.Opening.{verdict, mostNames, greatestFrame, Blocks}
@@ -23,6 +23,7 @@ use Rattle.gsd_format.proofs.Bytes.{Octets}
 use Rattle.gsd_format.proofs.Texts.{text-part}
 use Rattle.gsd_format.proofs.Names.{Named, names-pass}
 use Rattle.gsd_format.proofs.Entries.{Fits, Ordered, ShortIds, frames-most, frames-grown, frames-last, ordered-append}
+use Rattle.gsd_format.proofs.Arranged.{leastOf, arranged-ordered}
 use Rattle.gsd_format.proofs.Verdict.{Sound, AllSound, Opens, verdict-zero, sound-ids}
 use Rattle.gsd_stores.specs.Sheet.{Row, rowsOf, rowNames, mostRows}
 use Rattle.gsd_stores.specs.View.{View, viewOf, aligned}
@@ -38,6 +39,7 @@ use Rattle.gsd_stores.proofs.Plan.{body-even, entries-count, entry-row}
 
 pub record Valid (x : List ℕ) (rs : List Row) : Type 0 where
   pub opens : verdict x ≡ 0
+  pub recent : v10 (viewOf x .layout .version) ≡ false
   pub evenIndex : viewOf x .layout .index % 8 ≡ 0
   pub evenNames : viewOf x .layout .namelist % 8 ≡ 0
   pub early : framesOf (viewOf x .entries) ≡ greatestFrame + 1 → ⊥
@@ -48,28 +50,31 @@ pub record Valid (x : List ℕ) (rs : List Row) : Type 0 where
   pub fewNames : length (viewOf x .names) + length (newNames (viewOf x .names) rs) ≤ mostNames
   pub fits : finalPosition (planOf (viewOf x) rs) ≤ viewOf x .layout .len
 
--- 21: both blocks lie at words; 31: the last frame is not the greatest
-image-ready : (l : Layout) (frames : ℕ) → imageTest l frames ≡ 0 → (l .index % 8 ≡ 0) × (l .namelist % 8 ≡ 0) × (frames ≡ greatestFrame + 1 → ⊥)
+-- 20: the image is not of 1.0; 21: both blocks lie at words; 31: the last frame is not the greatest
+image-ready : (l : Layout) (frames : ℕ) → imageTest l frames ≡ 0 →
+    (v10 (l .version) ≡ false) × (l .index % 8 ≡ 0) × (l .namelist % 8 ≡ 0) × (frames ≡ greatestFrame + 1 → ⊥)
 unfolding imageTest
 image-ready l frames h =
-    let from21 = both _ _ h in
+    let from20 = both _ _ h in
+    let from21 = both _ _ (from20 .1) in
     let even = neither (not (eqb (l .index % 8) 0)) (not (eqb (l .namelist % 8) 0)) (unmet _ _ (from21 .0)) in
-    (eqb-true _ _ (not-false _ (even .0)), eqb-true _ _ (not-false _ (even .1)), eqb-false _ _ (unmet _ _ (from21 .1)))
+    (unmet _ _ (from20 .0), eqb-true _ _ (not-false _ (even .0)), eqb-true _ _ (not-false _ (even .1)), eqb-false _ _ (unmet _ _ (from21 .1)))
 
 pub valid : (x s : List ℕ) → Octets s → appendTest x s ≡ 0 → Valid x (rowsOf s)
 unfolding appendTest planTest
 valid x s o h =
     let from1 = both _ _ h in
-    let from21 = both _ _ (from1 .1) in
-    let from22 = both _ _ (from21 .1) in
+    let from20 = both _ _ (from1 .1) in
+    let from22 = both _ _ (from20 .1) in
     let from28 = both _ _ (from22 .1) in
-    let image = image-ready (viewOf x .layout) (framesOf (viewOf x .entries)) (from21 .0) in
+    let image = image-ready (viewOf x .layout) (framesOf (viewOf x .entries)) (from20 .0) in
     let ok : Accepted (viewOf x .layout .version) s = accepted _ s (from22 .0) in
     record {
       opens = from1 .0;
-      evenIndex = image .0;
-      evenNames = image .1;
-      early = image .2;
+      recent = image .0;
+      evenIndex = image .1;
+      evenNames = image .2;
+      early = image .3;
       some = omega (arith, rows-count s, ok .some);
       few = omega (arith, rows-count s, ok .few);
       rows = rows-ok _ s o ok;
@@ -243,6 +248,11 @@ new-early x o n = omega (arith, frames-most (entriesOf x) 0 greatestFrame (omega
 names-distinct : (x : List ℕ) → Opens x → Distinct (namesOf x)
 names-distinct x o = names-pass x (layoutOf x) (namesOf x) (o .names) .2
 
+-- 15 in 2.x: the keys rise
+pub opens-ordered : (x : List ℕ) → Opens x → v10 (layoutOf x .version) ≡ false → Ordered 0 (entriesOf x)
+unfolding leastOf
+opens-ordered x o r = arranged-ordered (entriesOf x) (layoutOf x .version) [] r .0 (o .arranged)
+
 pub ready : (x : List ℕ) (rs : List Row) → Valid x rs → Ready (viewOf x) rs (planOf (viewOf x) rs)
 unfolding viewOf layoutOf
 ready x rs ok =
@@ -273,7 +283,8 @@ ready x rs ok =
       some = some;
       new = new;
       exact = new-fits v rs p plan (ok .rows) (omega arith) (omega (arith, positions p, ok .fits)) (omega arith);
-      ordered = ordered-append (entriesOf x) (p .entries) 0 0 (opens .ordered) ids (omega arith) (new-ordered v rs p plan (ok .rows) (ok .distinct));
+      ordered = ordered-append (entriesOf x) (p .entries) 0 0 (opens-ordered x opens (ok .recent)) ids (omega arith)
+          (new-ordered v rs p plan (ok .rows) (ok .distinct));
       rising = new-rising v rs p plan (ok .rows) (ok .distinct);
       frames = frames-grown 0 0 (entriesOf x) (p .entries) some ∙ frames-last 0 (p .entries) end (omega arith) ∙ ap (λ f. f + 1) (new end (omega arith) .frame);
       blocks = blocks-after v rs p plan (ok .fits) small (opens .blocks);

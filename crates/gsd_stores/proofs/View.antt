@@ -2,6 +2,7 @@
 -- the byte at p. Most stores of an append change bytes at free places alone.
 use Prim.Native.Nat.{ℕ, _+_, _*_, _-_, _≤_, _<_}
 use mathlib.Core.Path.{_≡_, refl, sym, _∙_, ap}
+use mathlib.Core.Bool.{false}
 use mathlib.Core.Logic.{_⊎_, inl, inr}
 use mathlib.Core.List.{List}
 use native.Mathlib.Decide.{decLt}
@@ -11,12 +12,12 @@ use Rattle.gsd_format.specs.declared.Entry.{Entry}
 use Rattle.gsd_format.specs.declared.Layout.{Layout}
 use Rattle.gsd_format.specs.Bytes.{le, Apart}
 use Rattle.gsd_format.specs.Types.{chunkSize}
-use Rattle.gsd_format.specs.Header.{headerSize, layoutOf}
-use Rattle.gsd_format.specs.Names.{flat, nameParts, namesOf, namesAt}
+use Rattle.gsd_format.specs.Header.{headerSize, v10, layoutOf}
+use Rattle.gsd_format.specs.Names.{flat, namesOf, blockNames}
 use Rattle.gsd_format.specs.Entries.{entriesAt, entriesOf}
 use Rattle.gsd_format.specs.Lookup.{none}
 use Rattle.gsd_format.proofs.Bytes.{Same, le-same}
-use Rattle.gsd_format.proofs.Names.{IsNames, names-is, names-kept}
+use Rattle.gsd_format.proofs.Names.{IsNames, names-of-block, names-recent, names-is, names-kept}
 use Rattle.gsd_format.proofs.Entries.{IsEntries, is-entries, entries-kept}
 use Rattle.gsd_format.specs.Opening.{Blocks}
 use Rattle.gsd_format.proofs.Verdict.{Front, AllSound, layout-same, front-same}
@@ -49,9 +50,10 @@ withNames v ns = record { layout = v .layout; entries = v .entries; names = ns }
 abbrev pub withEntries : View → List Entry → View
 withEntries v es = record { layout = v .layout; entries = es; names = v .names }
 
--- x shows v: the header's numbers, both blocks, and both lists as they stand in them
+-- x, of 2.x, shows v: the header's numbers, both blocks, and both lists as they stand in them
 pub record Is (x : List ℕ) (v : View) : Type 0 where
   pub layout : layoutOf x ≡ v .layout
+  pub recent : v10 (v .layout .version) ≡ false
   pub front : Front x
   pub blocks : Blocks (v .layout)
   pub entries : IsEntries x (v .layout .index) (v .layout .slots) (v .entries)
@@ -63,12 +65,13 @@ unfolding layoutOf
 is-long h = ap (λ l. l .len) (h .layout)
 
 pub view-is : (x : List ℕ) (v : View) → Is x v → viewOf x ≡ v
-unfolding viewOf entriesOf namesOf nameParts
+unfolding viewOf entriesOf
 view-is x v h =
     let entries : entriesOf x ≡ v .entries
     = ap (λ l. entriesAt x (l .index) (l .slots)) (h .layout) ∙ is-entries (v .layout .slots) x (v .layout .index) (v .entries) (h .entries) in
     let names : namesOf x ≡ v .names
-    = ap (λ l. namesAt x (l .namelist) (64 * l .segments)) (h .layout) ∙ names-is x (v .layout .namelist) (64 * v .layout .segments) (v .names) (h .names) in
+    = names-of-block x ∙ ap (blockNames x) (h .layout) ∙ names-recent x (v .layout) (h .recent)
+    ∙ names-is x (v .layout .namelist) (64 * v .layout .segments) (v .names) (h .names) in
     λ i. record { layout = h .layout i; entries = entries i; names = names i }
 
 -- Free places
@@ -110,6 +113,7 @@ module _ {v : View} {x y : List ℕ} (h : Keeps v x y) where
   pub is-kept : Is x v → Is y v
   is-kept s = record {
     layout = layout-same y x (h .long) (λ k l. kept-at (8 + k) (λ f. omega (arith, f .low))) ∙ s .layout;
+    recent = s .recent;
     front = front-same x y (sym (h .long)) (λ p l o. sym (kept-at p (λ f. omega (arith, f .low)))) (s .front);
     blocks = s .blocks;
     entries = entries-kept x _ _ (v .entries) y _ _ (s .entries) kept-entries (s .entries .few)

@@ -1,4 +1,4 @@
--- The append: numbers 21 to 31 after the opening's, and what it answers and leaves for any limit of stores.
+-- The append: numbers 20 to 31 after the opening's, and what it answers and leaves for any limit of stores.
 use Prim.Native.Nat.{ℕ, zero, suc, _+_, _%_, min}
 use mathlib.Core.List.{List, []}
 use mathlib.Core.Bool.{not, _||_}
@@ -6,6 +6,7 @@ use lib.ListN.{length, take}
 use lib.Dec.{ltb, eqb}
 use Rattle.gsd_format.specs.declared.Layout.{Layout}
 use Rattle.gsd_format.specs.Refusals.{_⇒_, _▹_}
+use Rattle.gsd_format.specs.Header.{v10}
 use Rattle.gsd_format.specs.Entries.{framesOf}
 use Rattle.gsd_format.specs.Opening.{verdict, mostNames, greatestFrame}
 use Rattle.gsd_stores.specs.declared.Appended.{Appended}
@@ -15,10 +16,11 @@ use Rattle.gsd_stores.specs.View.{viewOf}
 use Rattle.gsd_stores.specs.Plan.{planOf, newNames, finalPosition}
 use Rattle.gsd_stores.specs.Steps.{storeList}
 
--- 21 and 31: the append's tests of an image that opens, by its layout and how many frames it has
+-- 20, 21 and 31: the append's tests of an image that opens, by its layout and how many frames it has
 unfoldable pub imageTest : Layout → ℕ → ℕ
 imageTest l frames =
-    (not (eqb (l .index % wordSize) 0) || not (eqb (l .namelist % wordSize) 0) ⇒ 21)
+    (v10 (l .version) ⇒ 20)
+    ▹ (not (eqb (l .index % wordSize) 0) || not (eqb (l .namelist % wordSize) 0) ⇒ 21)
     ▹ (eqb frames (greatestFrame + 1) ⇒ 31)
 
 -- 29: what is planned ends in the image

@@ -24,7 +24,7 @@ pub record Undefined (s : List ℕ) : Type 0 where
   pub element : k < getD (rowsOf s) i noRow .n * getD (rowsOf s) i noRow .m
   pub nan : NanAt (getD (rowsOf s) i noRow .kind) (getD (rowsOf s) i noRow .body) 0 k
 
--- the image's numbers, 21, 31 and 22 to 27
+-- the image's numbers, 20, 21, 31 and 22 to 27
 unfoldable pub earlierTest : List ℕ → List ℕ → ℕ
 earlierTest img sheet =
     verdict img

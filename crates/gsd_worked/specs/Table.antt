@@ -1,15 +1,16 @@
 -- The worked cases that are proved: each a list of numbers computed by the definitions, and what it must be.
-use Prim.Native.Nat.{ℕ, zero, suc, _+_, _*_}
+use Prim.Native.Nat.{ℕ, zero, suc, _+_, _*_, _-_}
 use Prim.Native.String.{String}
 use mathlib.Core.List.{List, [], _∷_, _++_, map}
 use mathlib.Core.Bool.{Bool, true, _&&_}
-use lib.ListN.{getD, length}
+use lib.ListN.{getD, length, take, drop}
 use Rattle.gsd_format.specs.Bytes.{same, leBytes, zeros, stored}
 use Rattle.gsd_format.specs.Ascii.{ascii}
 use Rattle.gsd_format.specs.Types.{sizeOf}
-use Rattle.gsd_format.specs.Header.{version20, version21, versionPlace, slotSize, versionOf, layoutOf}
-use Rattle.gsd_format.specs.Names.{namesOf}
-use Rattle.gsd_format.specs.Entries.{nPlace, entriesOf}
+use Rattle.gsd_format.specs.Header.{version10, version20, version21, versionOf, layoutOf}
+use Rattle.gsd_format.specs.Header.{indexPlace, namelistPlace, versionPlace, slotSize, segmentSize}
+use Rattle.gsd_format.specs.Names.{namesOf, flat}
+use Rattle.gsd_format.specs.Entries.{nPlace, locationPlace, entriesOf}
 use Rattle.gsd_format.specs.Opening.{verdict}
 use Rattle.gsd_format.specs.declared.Entry.{Entry}
 use Rattle.gsd_format.specs.Lookup.{lookup, none}
@@ -18,12 +19,14 @@ use Rattle.gsd_format.specs.Calls.{probesOf}
 use Rattle.gsd_format.specs.Elements.{element}
 use Rattle.gsd_format.specs.Create.{createNumber, created}
 use Rattle.gsd_format.specs.Listing.{printed}
-use Rattle.gsd_format.specs.Answers.{listedNumber, elementValues}
+use Rattle.gsd_format.specs.Answers.{listedNumber, listedValues, elementValues}
 use Rattle.gsd_stores.specs.View.{View, viewOf, endOfUse}
 use Rattle.gsd_stores.specs.Sheet.{rowsOf, sheetTest}
 use Rattle.gsd_stores.specs.Plan.{Plan, planOf}
 use Rattle.gsd_stores.specs.Steps.{clearIndex, clearNames, storeData, moveNames, storeNames, moveIndex, storeEntries, nameBlock, indexBlock}
-use Rattle.gsd_stores.specs.Append.{appendTest, storesFor, appended}
+use Rattle.gsd_stores.specs.Steps.{indexBytes}
+use Rattle.gsd_stores.specs.declared.Appended.{Appended}
+use Rattle.gsd_stores.specs.Append.{appendTest, storesFor, appendAnswer, appended}
 use Rattle.gsd_stores.specs.Runs.{frames}
 
 pub record Case : Type 0 where
@@ -127,7 +130,7 @@ table =
     ∷ record { says = "name fan: 41"; got = listedNumber (lookup b 1 (ascii "fan")) ∷ []; expected = 41 ∷ [] }
     ∷ []
 
--- both versions: the same request on an image of 2.1, as create makes it, and on one of 2.0
+-- the versions that grow: the same request on an image of 2.1, as create makes it, and on one of 2.0
 unfoldable pub versions : List Case
 versions =
     let new : List ℕ = freshIn 1024 in
@@ -135,9 +138,9 @@ versions =
     let said : List ℕ = appended new (sheetOf 11) 100 in
     record { says = "create makes 2.1"; got = versionOf new ∷ []; expected = 0x00020001 ∷ [] }
     ∷ record {
-      says = "no other version opens but 2.0";
-      got = verdict old ∷ verdict (inVersion 0x00020002 new) ∷ verdict (inVersion 0x00010000 new) ∷ verdict (inVersion 0x00030000 new) ∷ [];
-      expected = 0 ∷ 4 ∷ 4 ∷ 4 ∷ [];
+      says = "no other version opens but 1.0 and 2.0";
+      got = map (λ v. verdict (inVersion v new)) (version10 ∷ version20 ∷ 0 ∷ 0x00010001 ∷ 0x00020002 ∷ 0x00030000 ∷ []);
+      expected = 0 ∷ 0 ∷ 4 ∷ 4 ∷ 4 ∷ 4 ∷ [];
     }
     ∷ record {
       says = "a sheet with a character: taken by 2.1, 24 and no store on 2.0";
@@ -169,7 +172,7 @@ entriesFrom frame (suc n) = record { frame = frame; n = 1; location = 256; m = 1
 
 -- the search among n of them: its number, then the entries that it probes
 unfoldable pub search : ℕ → ℕ → ℕ → List ℕ
-search n frame id = listedNumber (searched frame id (entriesFrom 0 n)) ∷ probed frame id (entriesFrom 0 n)
+search n frame id = listedNumber (searched version21 frame id (entriesFrom 0 n)) ∷ probed version21 frame id (entriesFrom 0 n)
 
 -- which entries are probed, in their order
 unfoldable pub probes : List Case
@@ -380,6 +383,149 @@ undefined =
       says = "an image that holds one is read as before, and grows";
       got = shown held ++ elementValues (element held 0 (ascii "probe") 0) ++ appendTest held sheetB ∷ [];
       expected = 0 ∷ 1 ∷ 1 ∷ 1 ∷ 3 ∷ 0x7f800001 ∷ 0 ∷ [];
+    }
+    ∷ []
+
+-- texts in segments of their own, each filled up with zeros
+unfoldable pub inSegments : List (List ℕ) → List ℕ
+inSegments [] = []
+inSegments (t ∷ ts) = t ++ zeros (segmentSize - length t) ++ inSegments ts
+
+-- the image with these bytes from a place on
+unfoldable pub over : List ℕ → ℕ → List ℕ → List ℕ
+over img at bytes = take at img ++ bytes ++ drop (at + length bytes) img
+
+-- an image of 1.0 with these segments and entries: 5 slots from 256 on, 4 segments from 416, data from 672
+unfoldable pub image10 : List (List ℕ) → List Entry → List ℕ
+image10 texts es =
+    let slice : List ℕ = zeros 672 ++ 70 ∷ 71 ∷ 72 ∷ 73 ∷ zeros 4 in
+    over (over (inVersion version10 (created slice [] [] 0 5 4)) 416 (inSegments texts)) 256 (indexBytes es)
+
+-- an entry of one element; its type is u8 where none is said, and its place that of its id
+abbrev pub typed : ℕ → ℕ → ℕ → Entry
+typed kind frame id = record { frame = frame; n = 1; location = 672 + id; m = 1; id = id; kind = kind; flags = 0 }
+
+abbrev pub byte : ℕ → ℕ → Entry
+byte frame id = typed 1 frame id
+
+-- ids 0 to 3
+abbrev pub four : List (List ℕ)
+four = ascii "pos" ∷ ascii "vel" ∷ ascii "mode" ∷ ascii "temp" ∷ []
+
+-- the number of an image with these segments, and the names it lists; of one with the four and these entries
+unfoldable pub named : List (List ℕ) → List ℕ
+named texts = let x : List ℕ = image10 texts [] in verdict x ∷ flat (namesOf x)
+
+unfoldable pub entered : List Entry → ℕ
+entered es = verdict (image10 four es)
+
+-- the image with its index or name block, by that place in the header, empty and at 257, off 8
+unfoldable pub emptied : ℕ → List ℕ → List ℕ
+emptied place img = stored img place (leBytes 8 257 ++ leBytes 8 0)
+
+-- number, stores done and stores of the whole
+unfoldable pub answered : List ℕ → List ℕ → ℕ → List ℕ
+answered img sheet limit = let a : Appended = appendAnswer img sheet limit in a .number ∷ a .done ∷ a .whole ∷ []
+
+-- images of 1.0: names in segments, entries in the order of writing, and no append
+unfoldable pub first10 : List Case
+first10 =
+    let full : List ℕ = ascii "0123456789abcdef0123456789abcdef0123456789abcdef0123456789abcdef" in
+    let more : List ℕ = ascii "pos" ++ 0 ∷ ascii "zz" in
+    let blank : List ℕ = image10 four [] in
+    let x : List ℕ = image10 four (byte 0 2 ∷ byte 0 0 ∷ byte 3 2 ∷ byte 3 0 ∷ byte 3 1 ∷ []) in
+    record { says = "a name in each segment"; got = named four; expected = 0 ∷ flat four }
+    ∷ record {
+      says = "the same bytes in 2.1: the first name alone";
+      got = flat (namesOf (inVersion version21 blank));
+      expected = flat (ascii "pos" ∷ []);
+    }
+    ∷ record {
+      says = "bytes behind a name's zero mean nothing";
+      got = named (more ∷ ascii "vel" ∷ []);
+      expected = 0 ∷ flat (ascii "pos" ∷ ascii "vel" ∷ []);
+    }
+    ∷ record { says = "so two names can be equal: 11"; got = named (ascii "pos" ∷ more ∷ []); expected = 11 ∷ flat (ascii "pos" ∷ ascii "pos" ∷ []) }
+    ∷ record {
+      says = "a segment without a zero: 9, though the next has one, and before 11";
+      got = map (λ texts. getD (named texts) 0 0) ((full ∷ ascii "vel" ∷ []) ∷ (ascii "pos" ∷ ascii "pos" ∷ ascii "mode" ∷ full ∷ []) ∷ []);
+      expected = 9 ∷ 9 ∷ [];
+    }
+    ∷ record {
+      says = "63 bytes and a zero; a segment that starts with zero ends the list, whatever stands behind it";
+      got = named (take 63 full ∷ (0 ∷ ascii "vel") ∷ full ∷ []);
+      expected = 0 ∷ flat (take 63 full ∷ []);
+    }
+    ∷ record { says = "frames 0 and 3 alone: 4 frames"; got = shown x; expected = 0 ∷ 4 ∷ 4 ∷ 5 ∷ [] }
+    ∷ record {
+      says = "ids that fall, an id in two frames, a first frame above 0";
+      got = map entered ((byte 0 2 ∷ byte 0 1 ∷ byte 0 0 ∷ []) ∷ (byte 7 2 ∷ byte 8 2 ∷ []) ∷ []);
+      expected = 0 ∷ 0 ∷ [];
+    }
+    ∷ record {
+      says = "(frame, id) twice, side by side and apart: 15";
+      got = map entered ((byte 0 1 ∷ byte 0 1 ∷ []) ∷ (byte 0 2 ∷ byte 0 0 ∷ byte 0 2 ∷ [])
+          ∷ (byte 0 0 ∷ byte 3 2 ∷ byte 3 0 ∷ byte 3 1 ∷ byte 3 2 ∷ []) ∷ []);
+      expected = 15 ∷ 15 ∷ 15 ∷ [];
+    }
+    ∷ record {
+      says = "a falling frame: 15";
+      got = map entered ((byte 1 0 ∷ byte 0 1 ∷ []) ∷ (byte 1 0 ∷ byte 2 0 ∷ byte 1 1 ∷ []) ∷ []);
+      expected = 15 ∷ 15 ∷ [];
+    }
+    ∷ record {
+      says = "of one entry 14 goes before 15, 15 before 16, and 16 before 18";
+      got = entered (byte 1 0 ∷ byte 0 4 ∷ []) ∷ map (λ es. verdict (sized 1025 (image10 four es)))
+          ((byte 0 2 ∷ byte 0 0 ∷ byte 0 2 ∷ []) ∷ (byte 0 2 ∷ byte 0 0 ∷ byte 4294967295 2 ∷ []) ∷ []);
+      expected = 14 ∷ 15 ∷ 16 ∷ [];
+    }
+    ∷ record {
+      says = "a frame above 4,294,967,294: 18";
+      got = map entered ((byte 4294967294 0 ∷ []) ∷ (byte 4294967295 0 ∷ []) ∷ []);
+      expected = 0 ∷ 18 ∷ [];
+    }
+    ∷ record {
+      says = "types 1 to 10, and no character: 13";
+      got = map (λ kind. entered (typed kind 0 0 ∷ [])) (0 ∷ 1 ∷ 10 ∷ 11 ∷ []);
+      expected = 13 ∷ 0 ∷ 0 ∷ 13 ∷ [];
+    }
+    ∷ record {
+      says = "location 0 ends the list, whatever stands behind it";
+      got = shown (stored x (256 + 2 * slotSize + locationPlace) (leBytes 8 0));
+      expected = 0 ∷ 1 ∷ 4 ∷ 2 ∷ [];
+    }
+    ∷ record {
+      says = "an entry, and its element";
+      got = listedValues (lookup x 3 (ascii "vel")) ++ elementValues (element x 3 (ascii "vel") 0);
+      expected = 3 ∷ 1 ∷ 673 ∷ 1 ∷ 1 ∷ 1 ∷ 0 ∷ 1 ∷ 71 ∷ [];
+    }
+    ∷ record {
+      says = "42 in a frame with entries and in one without, 41, 40";
+      got = found x 0 "vel" ∷ found x 3 "temp" ∷ found x 1 "pos" ∷ found x 1 "fan" ∷ found x 4 "pos" ∷ [];
+      expected = 42 ∷ 42 ∷ 42 ∷ 41 ∷ 40 ∷ [];
+    }
+    ∷ record { says = "probes: the frame is walked from its first entry"; got = probesOf x 0 (ascii "mode"); expected = 2 ∷ 1 ∷ 0 ∷ 0 ∷ [] }
+    ∷ record { says = "to the one found"; got = probesOf x 0 (ascii "pos"); expected = 2 ∷ 1 ∷ 0 ∷ 0 ∷ 1 ∷ [] }
+    ∷ record { says = "in the last frame"; got = probesOf x 3 (ascii "vel"); expected = 2 ∷ 1 ∷ 2 ∷ 3 ∷ 4 ∷ [] }
+    ∷ record { says = "42: to the one behind it"; got = probesOf x 0 (ascii "vel"); expected = 2 ∷ 1 ∷ 0 ∷ 0 ∷ 1 ∷ 2 ∷ [] }
+    ∷ record { says = "or to the end"; got = probesOf x 3 (ascii "temp"); expected = 2 ∷ 1 ∷ 2 ∷ 3 ∷ 4 ∷ [] }
+    ∷ record { says = "in an empty frame: both next to its place"; got = probesOf x 1 (ascii "pos"); expected = 2 ∷ 1 ∷ 2 ∷ [] }
+    ∷ record { says = "40 and 41: none"; got = probesOf x 4 (ascii "pos") ++ probesOf x 0 (ascii "fan"); expected = [] }
+    ∷ record {
+      says = "an append, whatever its limit: 20, no store";
+      got = answered x sheetA 0 ++ answered x sheetA 1000 ++ appended x sheetA 1000;
+      expected = 20 ∷ 0 ∷ 0 ∷ 20 ∷ 0 ∷ 0 ∷ x;
+    }
+    ∷ record {
+      says = "20 behind the image's number, before 22 and 31";
+      got = appendTest (image10 (full ∷ []) []) sheetA ∷ appendTest x [] ∷ appendTest (image10 four (byte 4294967294 0 ∷ [])) sheetA ∷ [];
+      expected = 9 ∷ 20 ∷ 20 ∷ [];
+    }
+    ∷ record {
+      says = "and before 21, which the same blocks give in 2.1";
+      got = map (λ place. appendTest (emptied place blank) sheetA) (indexPlace ∷ namelistPlace ∷ [])
+          ++ map (λ place. appendTest (inVersion version21 (emptied place blank)) sheetA) (indexPlace ∷ namelistPlace ∷ []);
+      expected = 20 ∷ 20 ∷ 21 ∷ 21 ∷ [];
     }
     ∷ []
 

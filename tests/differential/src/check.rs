@@ -1,6 +1,6 @@
 //! Two makers of the calls side by side, on one image.
 
-use crate::images::{frames_to_ask, Row};
+use crate::images::{around, frames_to_ask, Row};
 use crate::lent::{Flush, Lent};
 use crate::library::{Create, Library, Reference};
 use std::collections::BTreeMap;
@@ -168,18 +168,25 @@ impl<'l> Check<'l> {
         self.judge((number, theirs), (expected, ours), call)
     }
 
-    /// Compares a count of probes, and holds it to what knows no halving: its bound, and that a
-    /// search reads something where there is one.
+    /// Compares a count of probes, and holds it to what knows no halving: its bound, and what it reads
+    /// at least where there is a search.
     fn judge_probes(&mut self, (number, theirs): (u64, Out<1>), frame: u64, name: &[u8]) {
         let mut ours = Out::new();
         let expected = Reference.probes(&self.ours, frame, name, &mut ours.numbers);
         let call = || format!("probes frame {frame} name {}", hex(name));
         let [count] = theirs.numbers;
         self.judge((number, theirs), (expected, ours), call);
+        if ![0, 42].contains(&number) {
+            if count != 0 {
+                self.fail(|| format!("{}\n  answers  {number} [{count}]", call()));
+            }
+            return;
+        }
         let entries = crate::reference::open(&self.ours).map_or(0, |counts| counts.entries);
-        let digits = u64::BITS - entries.leading_zeros();
-        let searched = [0, 42].contains(&number);
-        if count > u64::from(digits + 1) || searched != (count > 0) {
+        let (inside, beside) = around(&self.ours, entries, frame);
+        let digits = u64::from(u64::BITS - entries.leading_zeros());
+        let least = if number == 0 { 1 } else { inside + beside };
+        if !(least..=digits + 1 + inside).contains(&count) {
             self.fail(|| format!("{}\n  answers  {number} [{count}] of {entries}", call()));
         }
     }

@@ -2,13 +2,14 @@
 
 use crate::ask::Ask;
 use crate::check::hex;
-use crate::images::{frames_to_ask, holds_nan, lawful_rows, size, Row, GREATEST_FRAME};
+use crate::images::{frames_to_ask, holds_nan, lawful_rows, size, Row, GREATEST_FRAME, V1_0};
 use crate::library::Library;
 use std::collections::BTreeMap;
 
 /// A call of a run: any bytes as a sheet, with the rows of one that is lawful for the run's image
 /// but for NaNs, and a limit.
 pub struct Call {
+    version: u32,
     sheet: Vec<u8>,
     rows: Option<Vec<Row>>,
     limit: u64,
@@ -17,17 +18,18 @@ pub struct Call {
 impl Call {
     /// No append changes the version, so that of the run's start is that of every call.
     pub fn new(version: u32, sheet: Vec<u8>, limit: u64) -> Call {
-        Call { rows: lawful_rows(&sheet, version), sheet, limit }
+        Call { version, rows: lawful_rows(&sheet, version), sheet, limit }
     }
 
     fn holds_nan(&self) -> bool {
         self.rows.iter().flatten().any(Row::holds_nan)
     }
 
-    /// What can refuse it in an image that opens: that no frame is left, the sheet, or that the
-    /// image is no place for it.
+    /// What can refuse it in an image that opens: its version, that no frame is left, the sheet, or
+    /// that the image is no place for it.
     fn refusals(&self, full: bool) -> &'static [u64] {
         match self.rows {
+            _ if self.version == V1_0 => &[20],
             _ if full => &[21, 31],
             None => &[21, 22, 23, 24, 25, 26, 27],
             Some(_) if self.holds_nan() => &[21, 30],
@@ -94,12 +96,13 @@ impl<'l> Run<'l> {
         let before = image.clone();
         let stores = self.library.put(image, &call.sheet, call.limit);
         self.entries(image)?;
-        let (full, holds_nan) = (self.count > GREATEST_FRAME, call.holds_nan());
+        let full = self.count > GREATEST_FRAME;
+        let never = full || call.version == V1_0 || call.holds_nan();
         let refusals = call.refusals(full);
         let ([done, whole], rows) = match (stores, &call.rows) {
-            (Ok(stores), Some(rows)) if !full && !holds_nan => (stores, rows),
+            (Ok(stores), Some(rows)) if !never => (stores, rows),
             (Err(_), _) if *image != before => return Err("a refusal wrote".into()),
-            (Err(number), _) if refusals.contains(&number) => return Ok(()),
+            (Err(number), _) if refusals.contains(&number) => return self.same(image),
             _ => return Err(format!("{stores:?}; if refused, one of {refusals:?}")),
         };
         if done != whole.min(call.limit) {
@@ -128,10 +131,14 @@ impl<'l> Run<'l> {
         }
     }
 
-    /// Found stays found, with the same entry and bytes; none found stays none; and the number of
-    /// frames is as counted.
     fn moment(&mut self, image: &[u8]) -> Result<(), String> {
         self.moments += 1;
+        self.same(image)
+    }
+
+    /// Found stays found, with the same entry and bytes; none found stays none; and the number of
+    /// frames is as counted.
+    fn same(&self, image: &[u8]) -> Result<(), String> {
         let counts = self.library.counts(image);
         let [frames, ..] = counts.map_err(|number| format!("refused with {number}"))?;
         if frames != self.count {

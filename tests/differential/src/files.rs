@@ -1,8 +1,9 @@
-//! Files that the real GSD library wrote, with its own reading of them (tests/files/README.md).
+//! Files that the real GSD library wrote, with its own reading of them, and files of 1.0
+//! (tests/files/README.md).
 
 use crate::ask::Ask;
 use crate::generate;
-use crate::images::{frames_to_ask, get64, sheet, Row, FLOATS};
+use crate::images::{frames_to_ask, get64, sheet, version, Row, FLOATS, V1_0};
 use crate::library::Library;
 use std::path::{Path, PathBuf};
 use std::{fs, io};
@@ -31,10 +32,11 @@ impl Files {
         Files { images: folder.clone(), listings: folder.clone(), chunks: folder }
     }
 
-    /// The names of the files, without their ending; "2.1/NAME" for those in the folder `2.1`.
+    /// The names of the files, without their ending; "2.1/NAME" for those in the folder `2.1`, and so
+    /// for those in `1.0`.
     pub fn names(&self) -> io::Result<Vec<String>> {
         let mut names = Vec::new();
-        for folder in ["", "2.1/"] {
+        for folder in ["", "1.0/", "2.1/"] {
             let path = self.images.join(folder);
             if !folder.is_empty() && !path.is_dir() {
                 continue;
@@ -88,37 +90,73 @@ pub fn hold(library: &dyn Library, files: &Files, name: &str) {
     let image = files.image(name);
     let listing = files.listing(name);
     assert_eq!(library.listing(&image), listing, "{name}");
-    let chunks = files.chunks(name);
-    let characters = chunks.lines().any(|line| line.split('\t').nth(2) == Some("11"));
-    other_version(library, &image, &listing, characters);
-    let Ok([_, _, entries]) = library.counts(&image) else {
+    assert!(version(&image) == V1_0 || !name.starts_with("1.0/"), "{name}");
+    if version(&image) == V1_0 {
+        no_other_version(library, &image);
+    } else {
+        let chunks = files.chunks(name);
+        let characters = chunks.lines().any(|line| line.split('\t').nth(2) == Some("11"));
+        other_version(library, &image, &listing, characters);
+    }
+    if library.counts(&image).is_err() {
         return;
-    };
+    }
+    hold_chunks(library, &image, name, &files.chunks(name));
+    if version(&image) == V1_0 {
+        takes_none(library, &image);
+    } else {
+        grow(library, &image);
+        let refused = append_again(library, &image);
+        // The file of extreme values has NaNs of both types.
+        assert!(refused == 2 || !name.ends_with("extremes"), "{name}: {refused}");
+    }
+}
+
+fn hold_chunks(library: &dyn Library, image: &[u8], name: &str, chunks: &str) {
+    let [_, _, entries] = library.counts(image).unwrap();
     assert_eq!(chunks.lines().count() as u64, entries, "{name}");
     for line in chunks.lines() {
         let fields: Vec<_> = line.split('\t').collect();
         let [frame, id, kind, n, m] = [0, 1, 2, 3, 4].map(|at| fields[at].parse::<u64>().unwrap());
         let (crc, chunk) = (u32::from_str_radix(fields[5], 16).unwrap(), hex(fields[6]));
-        let entry = library.find(&image, frame, &chunk).unwrap();
+        let entry = library.find(image, frame, &chunk).unwrap();
         assert_eq!([entry[0], entry[1], entry[3], entry[4], entry[5]], [frame, n, m, id, kind]);
-        let bytes = library.bytes(&image, frame, &chunk).unwrap();
+        let bytes = library.bytes(image, frame, &chunk).unwrap();
         assert_eq!(crc32(bytes), crc, "{name}: {line}");
-        assert_eq!(library.nth_name(&image, id), Ok(&chunk[..]));
+        assert_eq!(library.nth_name(image, id), Ok(&chunk[..]));
         // Element by element the same bytes: little-endian, sign-extended or not.
         let answered = [0, 1, 1, 1, 1, 2, 2, 2, 2, 3, 4, 1][kind as usize];
         let size = bytes.len() / (n * m).max(1) as usize;
         for (k, expected) in bytes.chunks_exact(size.max(1)).enumerate().take(1000) {
             let mut whole = [if answered == 2 && expected[size - 1] > 127 { 255 } else { 0 }; 8];
             whole[..size].copy_from_slice(expected);
-            let element = library.nth_element(&image, frame, &chunk, k as u64);
+            let element = library.nth_element(image, frame, &chunk, k as u64);
             assert_eq!(element, Ok([answered, u64::from_le_bytes(whole)]), "{name}: {line}");
         }
-        assert_eq!(library.nth_element(&image, frame, &chunk, n * m), Err(43));
+        assert_eq!(library.nth_element(image, frame, &chunk, n * m), Err(43));
     }
-    grow(library, &image);
-    let refused = append_again(library, &image);
-    // The file of extreme values has NaNs of both types.
-    assert!(refused == 2 || !name.ends_with("extremes"), "{name}: {refused}");
+}
+
+/// No version but 1.0 itself has the major number 1.
+fn no_other_version(library: &dyn Library, file: &[u8]) {
+    let mut image = file.to_vec();
+    image[44] ^= 1;
+    if image.len() <= 65_536 {
+        assert_eq!(library.listing(&image), "refused 4\n");
+    }
+}
+
+/// An append to a file of 1.0 is refused, whatever it is and however much room there is.
+fn takes_none(library: &dyn Library, file: &[u8]) {
+    for room in [0, 65_536] {
+        let mut image = file.to_vec();
+        image.resize(file.len() + room, 0xA5);
+        for sheet in [crate::cases::sheet_a(), crate::cases::sheet_b(), Vec::new()] {
+            for limit in [0, 1, u64::MAX] {
+                assert_eq!(library.after(&image, &sheet, limit), (image.clone(), Err(20)));
+            }
+        }
+    }
 }
 
 /// As a file of the other version it lists the same, but for characters, which 2.0 does not know.

@@ -1,8 +1,9 @@
 //! Random images and sheets: lawful, odd and damaged.
 
 use crate::images::{
-    blank, get64, is_nan, last_type, put32, put64, put_names, put_slots, sheet, size, version, Row,
-    Slot, FLOATS, GREATEST_FRAME, V2_1, VERSIONS,
+    blank, get64, is_nan, last_type, put16, put32, put64, put_names, put_slots, room, segments_for,
+    sheet, size, version, Row, Slot, FLOATS, GREATEST_FRAME, GROWING, SEGMENT, V1_0, V2_1,
+    VERSIONS,
 };
 use crate::library::{Create, Library, Reference};
 use crate::random::Rng;
@@ -53,6 +54,22 @@ pub fn names(rng: &mut Rng, count: usize) -> Vec<Vec<u8>> {
     names
 }
 
+/// Different names that segments hold; some fill theirs.
+pub fn short_names(rng: &mut Rng, count: usize) -> Vec<Vec<u8>> {
+    let mut names = Vec::new();
+    while names.len() < count {
+        let next = match rng.below(8) {
+            0 => (0..63).map(|_| rng.byte().max(1)).collect(),
+            1 => rng.pick(&NAMES[16..18]).to_vec(),
+            _ => name(rng),
+        };
+        if next.len() < SEGMENT && !names.contains(&next) {
+            names.push(next);
+        }
+    }
+    names
+}
+
 /// The first frames, those about the last one that opens, and those with which 65,536 times the
 /// frame wraps in 64 bits.
 const FRAMES: [u64; 13] = [
@@ -87,6 +104,13 @@ fn keys(rng: &mut Rng, most: usize, names: usize) -> Vec<(u64, u16)> {
     keys.into_iter().map(|(frame, id)| (frame, id as u16)).collect()
 }
 
+/// Puts entries into any order within their frames, as 1.0 has them.
+pub fn shuffle_frames<T>(rng: &mut Rng, entries: &mut [T], frame: impl Fn(&T) -> u64) {
+    for entries in entries.chunk_by_mut(|a, b| frame(a) == frame(b)) {
+        rng.shuffle(entries);
+    }
+}
+
 /// A frame that opens, at least this one.
 fn frame_from(rng: &mut Rng, least: u64) -> u64 {
     let frame = match rng.below(12) {
@@ -99,10 +123,19 @@ fn frame_from(rng: &mut Rng, least: u64) -> u64 {
     frame.clamp(least, GREATEST_FRAME)
 }
 
+/// A version that opens, 1.0 with such a chance.
+pub fn some_version(rng: &mut Rng, percent: usize) -> u32 {
+    if rng.chance(percent) {
+        V1_0
+    } else {
+        rng.pick(&GROWING)
+    }
+}
+
 /// A version that opens, one near it, or any.
 pub fn odd_version(rng: &mut Rng) -> u32 {
     match rng.below(6) {
-        0 => rng.pick(&[V2_1 + 1, 0x0001_0000, 0x0003_0000, 0, u32::MAX]),
+        0 => rng.pick(&[V2_1 + 1, V1_0 + 1, V1_0 - 1, 0x0003_0000, 0, u32::MAX]),
         1 => rng.pick(&VERSIONS) ^ 1 << rng.below(32),
         2 => rng.number() as u32,
         _ => rng.pick(&VERSIONS),
@@ -118,8 +151,17 @@ fn odd_kind(rng: &mut Rng) -> u8 {
     }
 }
 
-/// A fresh image of a random shape and of either version, dirty behind its blocks.
+/// A fresh image of a random shape, dirty behind its blocks.
 pub fn fresh(rng: &mut Rng) -> Vec<u8> {
+    let mut image = growing(rng);
+    if rng.chance(8) {
+        put32(&mut image, 44, V1_0);
+    }
+    image
+}
+
+/// The same, of a version that takes appends.
+pub fn growing(rng: &mut Rng) -> Vec<u8> {
     let slots = rng.pick(&[1, 1, 2, 3, 4, 7, 16]);
     let segments = rng.pick(&[1, 1, 2, 3, 5]);
     let used = 256 + 32 * slots + 64 * segments;
@@ -134,7 +176,7 @@ pub fn fresh(rng: &mut Rng) -> Vec<u8> {
         segments: segments as u64,
     };
     assert_eq!(Reference.create(&mut image, request), 0);
-    put32(&mut image, 44, rng.pick(&VERSIONS));
+    put32(&mut image, 44, rng.pick(&GROWING));
     image
 }
 
@@ -292,7 +334,7 @@ pub fn rows(rng: &mut Rng, version: u32, known: &[Vec<u8>]) -> Vec<Row> {
 
 /// An image made by appends, and the names in it.
 pub fn grown(rng: &mut Rng) -> (Vec<u8>, Vec<Vec<u8>>) {
-    let mut image = fresh(rng);
+    let mut image = growing(rng);
     let room = rng.pick(&[1000, 3000]);
     image.extend(rng.bytes(room));
     let mut known = Vec::new();
@@ -352,18 +394,28 @@ pub fn limit(rng: &mut Rng) -> u64 {
 pub struct Layout {
     pub image: Vec<u8>,
     pub names: Vec<Vec<u8>>,
+    version: u32,
     index: (usize, usize),
     name_block: (usize, usize),
     entries: usize,
     list_end: usize,
 }
 
-/// An image built field by field that opens, however odd: of either version; blocks in either order,
-/// at odd places, touching, empty or at the slice's end; chunks before, between and behind them,
-/// sharing bytes, empty anywhere, with NaNs; frames left out; leftovers behind both lists.
+/// As [`odd_of`], of any version.
 pub fn odd(rng: &mut Rng) -> Layout {
+    let version = some_version(rng, 30);
+    odd_of(rng, version)
+}
+
+/// An image built field by field that opens, however odd: blocks in either order, at odd places,
+/// touching, empty or at the slice's end; chunks before, between and behind them, sharing bytes,
+/// empty anywhere, with NaNs; frames left out; leftovers behind both lists, and in 1.0 behind names.
+pub fn odd_of(rng: &mut Rng, version: u32) -> Layout {
     let slots = rng.pick(&[0, 1, 1, 2, 2, 3, 4, 6]);
-    let segments = rng.pick(&[0, 1, 1, 1, 2, 3]);
+    let segments = match version {
+        V1_0 => rng.pick(&[0, 1, 2, 3, 4, 6]),
+        _ => rng.pick(&[0, 1, 1, 1, 2, 3]),
+    };
     let unit = if rng.chance(70) { 8 } else { 1 };
     let between = |rng: &mut Rng| match rng.below(3) {
         0 => 0,
@@ -392,34 +444,13 @@ pub fn odd(rng: &mut Rng) -> Layout {
     image[..256].copy_from_slice(&header);
     image[176..256].copy_from_slice(&reserved);
     image[40] = rng.byte();
-    let version = rng.pick(&VERSIONS);
     put32(&mut image, 44, version);
 
-    // Names, then nothing; sometimes the last one fills the block.
     let block = name_block..name_block + sizes[1];
-    image[block.clone()].fill(0);
-    let mut at = block.start;
-    let mut listed = Vec::new();
-    let wanted = rng.pick(&[0, 1, 2, 3, 3, 4, 20]);
-    for name in names(rng, wanted) {
-        if at + name.len() < block.end {
-            image[at..at + name.len()].copy_from_slice(&name);
-            at += name.len() + 1;
-            listed.push(name);
-        }
-    }
-    if at < block.end && rng.chance(15) {
-        let name = vec![b'z'; block.end - at - 1];
-        if !name.is_empty() {
-            image[at..block.end - 1].copy_from_slice(&name);
-            at = block.end;
-            listed.push(name);
-        }
-    }
-    if at < block.end && rng.chance(60) {
-        // Leftovers: the list ends at the zero.
-        rng.fill(&mut image[at + 1..block.end]);
-    }
+    let (listed, list) = match version {
+        V1_0 => odd_segments(rng, &mut image[block]),
+        _ => odd_names(rng, &mut image[block]),
+    };
 
     let free: Vec<(usize, usize)> = {
         let mut blocks: Vec<_> = [0, 1].map(|b| (starts[b], starts[b] + sizes[b])).into();
@@ -435,7 +466,11 @@ pub fn odd(rng: &mut Rng) -> Layout {
         free
     };
     let mut entries: Vec<Slot> = Vec::new();
-    for (frame, id) in keys(rng, slots, listed.len()) {
+    let mut keys = keys(rng, slots, listed.len());
+    if version == V1_0 {
+        shuffle_frames(rng, &mut keys, |key| key.0);
+    }
+    for (frame, id) in keys {
         let (start, end) = rng.pick(&free);
         let location = start + rng.below(end - start + 1);
         let room = rng.pick(&[end - location, (end - location).min(20)]);
@@ -462,8 +497,160 @@ pub fn odd(rng: &mut Rng) -> Layout {
     if rng.chance(30) {
         put_borders(rng, &mut image);
     }
+    let list_end = name_block + list;
     let (index, name_block) = ((index, sizes[0]), (name_block, sizes[1]));
-    Layout { image, names: listed, index, name_block, entries: entries.len(), list_end: at }
+    Layout { image, names: listed, version, index, name_block, entries: entries.len(), list_end }
+}
+
+/// Fills a name block of 2.x, and answers the names and the length of their list: names, then
+/// nothing; sometimes the last one fills the block.
+fn odd_names(rng: &mut Rng, block: &mut [u8]) -> (Vec<Vec<u8>>, usize) {
+    block.fill(0);
+    let mut at = 0;
+    let mut listed = Vec::new();
+    let wanted = rng.pick(&[0, 1, 2, 3, 3, 4, 20]);
+    for name in names(rng, wanted) {
+        if at + name.len() < block.len() {
+            block[at..at + name.len()].copy_from_slice(&name);
+            at += name.len() + 1;
+            listed.push(name);
+        }
+    }
+    if at < block.len() && rng.chance(15) {
+        let name = vec![b'z'; block.len() - at - 1];
+        if !name.is_empty() {
+            block[at..at + name.len()].copy_from_slice(&name);
+            at = block.len();
+            listed.push(name);
+        }
+    }
+    if at < block.len() && rng.chance(60) {
+        // Leftovers: the list ends at the zero.
+        rng.fill(&mut block[at + 1..]);
+    }
+    (listed, at)
+}
+
+/// The same of 1.0: whatever stands behind a name's zero means nothing, and so do the segments
+/// behind one that starts with zero, names or not.
+fn odd_segments(rng: &mut Rng, block: &mut [u8]) -> (Vec<Vec<u8>>, usize) {
+    let segments = block.len() / SEGMENT;
+    let wanted = rng.pick(&[segments, segments, segments.saturating_sub(1), segments / 2]);
+    let names = short_names(rng, segments);
+    for (segment, name) in block.chunks_mut(SEGMENT).zip(&names) {
+        put_segment(rng, segment, name);
+    }
+    for segment in block.chunks_mut(SEGMENT).skip(wanted + 1) {
+        if rng.chance(30) {
+            rng.fill(segment);
+        }
+    }
+    if let Some(end) = block.get_mut(SEGMENT * wanted) {
+        *end = 0;
+    }
+    (names[..wanted].to_vec(), SEGMENT * wanted)
+}
+
+/// A name with its zero and any bytes behind it: none, some, or one that looks like a name.
+pub fn put_segment(rng: &mut Rng, segment: &mut [u8], name: &[u8]) {
+    segment.fill(0);
+    let behind = name.len() + 1;
+    match rng.below(4) {
+        0 => {}
+        1 => segment[behind..].fill(b'z'),
+        2 => segment[behind..].iter_mut().zip(b"probe\0").for_each(|(to, byte)| *to = *byte),
+        _ => rng.fill(&mut segment[behind..]),
+    }
+    segment[..name.len()].copy_from_slice(name);
+}
+
+/// Segments of 1.0, lawful or not: names, some of them equal but for what stands behind their zero,
+/// some not closed, and some that start with zero, with names behind them.
+pub fn any_segments(rng: &mut Rng, count: usize) -> Vec<u8> {
+    let names = short_names(rng, count);
+    let mut block = vec![0; SEGMENT * count];
+    let bad = rng.pick(&[0, 0, 5, 20]);
+    for (n, segment) in block.chunks_mut(SEGMENT).enumerate() {
+        put_segment(rng, segment, &names[n]);
+        if rng.chance(bad) {
+            let other = &names[rng.below(n + 1)];
+            match rng.below(4) {
+                0 | 1 => segment.iter_mut().for_each(|byte| *byte = (*byte).max(1)),
+                2 => segment[0] = 0,
+                _ => put_segment(rng, segment, other),
+            }
+        }
+    }
+    if rng.chance(30) {
+        block[SEGMENT * rng.below(count)] = 0;
+    }
+    block
+}
+
+/// Frames and ids as a writer of 1.0 leaves them, or one that errs: a frame falls, or an id comes
+/// again, at once or later in its frame.
+pub fn written_keys(rng: &mut Rng, count: usize, names: usize) -> Vec<(u64, u16)> {
+    let mut keys: Vec<(u64, u16)> = Vec::new();
+    let errs = rng.pick(&[0, 0, 5, 15]);
+    let mut frame = frame_from(rng, 0);
+    while keys.len() < count {
+        let here: Vec<u16> = keys.iter().filter(|key| key.0 == frame).map(|key| key.1).collect();
+        let id = rng.below(names) as u16;
+        if rng.chance(errs) {
+            // Mostly a second entry; else a frame that falls, also with an id that is none, or any.
+            match rng.below(8) {
+                0 => frame = frame.saturating_sub(1),
+                1 => keys.push((frame.saturating_sub(1), names as u16)),
+                2 => frame = rng.pick(&FRAMES),
+                _ => keys.extend(here.get(rng.below(here.len() + 1)).map(|&id| (frame, id))),
+            }
+        } else if here.len() < names && rng.chance(85) {
+            keys.extend((!here.contains(&id)).then_some((frame, id)));
+        } else if frame < GREATEST_FRAME {
+            frame = frame_from(rng, frame + 1);
+        } else {
+            break;
+        }
+    }
+    if !keys.is_empty() && rng.chance(12) {
+        // Again at its frame's end, with or without others between.
+        let again = keys[rng.below(keys.len())];
+        let last = keys.iter().rposition(|key| key.0 == again.0).unwrap();
+        keys.insert(last + 1, again);
+    }
+    keys
+}
+
+/// An image of this version with these entries in such names, in as many slots, two more, or one
+/// less, and its blocks on multiples of 8 or not. Now and then the list ends earlier, at a location
+/// of 0.
+pub fn written_image(
+    rng: &mut Rng,
+    version: u32,
+    keys: &[(u64, u16)],
+    names: &[Vec<u8>],
+) -> Vec<u8> {
+    let slots = (keys.len() + rng.below(4)).saturating_sub(1);
+    let segments = segments_for(version, names);
+    let index = 256 + rng.pick(&[0, 0, 0, 8, 3]);
+    // An entry for which there is no slot lies between the blocks.
+    let list = index + 32 * slots.max(keys.len()) + rng.pick(&[0, 0, 0, 8, 5]);
+    let data = list + SEGMENT * segments;
+    let length = data + rng.between(16, 200);
+    let mut image = blank(length, index as u64, slots as u64, list as u64, segments as u64);
+    rng.fill(&mut image[data..]);
+    put32(&mut image, 44, version);
+    put_names(&mut image, list, names.iter().map(Vec::as_slice));
+    for (n, &(frame, id)) in keys.iter().enumerate() {
+        let (m, kind, flags) = (1, rng.pick(&[1, 1, 1, 5]), rng.pick(&[0, 0, 7]));
+        let (n_bytes, location) = (rng.below(9) as u64, (data + rng.below(8)) as u64);
+        let slot = Slot { frame, n: n_bytes, location, m, id, kind, flags };
+        slot.put(&mut image, index + 32 * n);
+    }
+    if !keys.is_empty() && rng.chance(10) {
+        put64(&mut image, index + 32 * rng.below(keys.len()) + 16, 0);
+    }
+    image
 }
 
 /// An odd image whose entries, one at least, are put into the first frames, the last ones or far
@@ -490,7 +677,9 @@ impl Layout {
             if self.entries > 0 && rng.chance(60) {
                 let slot = self.index.0 + 32 * rng.below(self.entries);
                 let near = self.near(rng);
-                match rng.below(9) {
+                // In the order of writing there is more to get wrong.
+                match rng.below(if self.version == V1_0 { 12 } else { 9 }) {
+                    9.. => self.take_key(rng, slot),
                     0 => put64(&mut self.image, slot, rng.pick(&FRAMES)),
                     1 => put64(&mut self.image, slot + 8, rng.border()),
                     2 => put64(&mut self.image, slot + 16, near),
@@ -517,6 +706,8 @@ impl Layout {
                         put64(&mut self.image, slot + 16, near);
                     }
                 }
+            } else if self.version == V1_0 && rng.chance(40) {
+                self.bend_segments(rng);
             } else if rng.chance(15) {
                 self.bend_names(rng);
             } else {
@@ -534,6 +725,37 @@ impl Layout {
         }
     }
 
+    /// Another entry's frame or id, or both.
+    fn take_key(&mut self, rng: &mut Rng, slot: usize) {
+        let other = self.index.0 + 32 * rng.below(self.entries);
+        let (frame, id) = (get64(&self.image, other), self.image[other + 28].into());
+        let which = rng.below(3);
+        if which != 0 {
+            put64(&mut self.image, slot, frame);
+        }
+        if which != 1 {
+            put16(&mut self.image, slot + 28, id);
+        }
+    }
+
+    /// Of 1.0: a segment that is not closed, a name again, or an end of the list, among the others or
+    /// behind them.
+    fn bend_segments(&mut self, rng: &mut Rng) {
+        let (start, size) = self.name_block;
+        if size == 0 {
+            return;
+        }
+        let listed = (self.list_end - start) / SEGMENT;
+        let at = start + SEGMENT * rng.below(size / SEGMENT).min(listed);
+        let segment = &mut self.image[at..at + SEGMENT];
+        let name = &self.names[..].get(rng.below(listed + 1));
+        match rng.below(3) {
+            0 => segment.iter_mut().for_each(|byte| *byte = (*byte).max(1)),
+            1 => segment[0] = 0,
+            _ => name.iter().for_each(|name| put_segment(rng, segment, name)),
+        }
+    }
+
     /// A name again behind the others, or one that is not closed.
     fn bend_names(&mut self, rng: &mut Rng) {
         let end = self.name_block.0 + self.name_block.1;
@@ -541,7 +763,7 @@ impl Layout {
             self.image[self.list_end..end].fill(b'u');
         } else if !self.names.is_empty() {
             let name = &self.names[rng.below(self.names.len())];
-            if self.list_end + name.len() < end {
+            if self.list_end + room(self.version, name) <= end {
                 put_names(&mut self.image, self.list_end, [&name[..]]);
             }
         }

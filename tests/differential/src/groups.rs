@@ -4,8 +4,8 @@ use crate::check::{names_of, Check};
 use crate::demand3::{Call, Run};
 use crate::generate::{self, Layout};
 use crate::images::{
-    blank, frames_to_ask, get64, put32, put64, put_names, put_slots, sheet, version, Row, Slot,
-    MAGIC, VERSIONS,
+    blank, frames_to_ask, get64, put32, put64, put_names, put_slots, segments_for, sheet, version,
+    Row, Slot, MAGIC, SEGMENT, V1_0, V2_1, VERSIONS,
 };
 use crate::library::{Create, Library, Reference};
 use crate::random::Rng;
@@ -33,7 +33,7 @@ pub const GROUPS: &[Group] = &[
     group("one to three damaged bytes", 60_000, damaged),
     group("random bytes", 10_000, random_bytes),
     group("damaged sheets", 40_000, sheets),
-    group("many names", 60, many_names),
+    group("many names", 100, many_names),
     group("many rows", 200, many_rows),
     group("a night of appends", 20, night),
     group("a long index", 10, long_index),
@@ -43,6 +43,9 @@ pub const GROUPS: &[Group] = &[
     group("searches in lists of many lengths", 400, searches),
     group("sheets with NaNs", 6000, nan_sheets),
     group("images with NaNs", 3000, nan_images),
+    group("names in segments", 8000, segments),
+    group("entries in the order of writing", 8000, written),
+    group("a run of appends to 1.0, word for word", 1000, old_runs),
 ];
 
 /// Every call once, on whatever the image is.
@@ -61,7 +64,7 @@ fn lengths(check: &mut Check, rng: &mut Rng) {
     let sheet = sheet(&[Row::bytes(b"a", b"1234567890")]);
     let mut whole = blank(400, 256, 0, 256, 0);
     for length in 0..=300 {
-        put32(&mut whole, 44, VERSIONS[length % 2]);
+        put32(&mut whole, 44, VERSIONS[length % 3]);
         for (index, names) in [(256, 256), (length as u64, 256), (256, length as u64)] {
             put64(&mut whole, 8, index);
             put64(&mut whole, 24, names);
@@ -138,18 +141,23 @@ fn fresh(check: &mut Check, rng: &mut Rng) {
     }
 }
 
-/// An image that opens.
+/// An image that opens, mostly of a version that takes appends.
 fn start(rng: &mut Rng) -> (Vec<u8>, Vec<Vec<u8>>) {
     if rng.chance(40) {
         (generate::fresh(rng), Vec::new())
     } else {
-        let Layout { mut image, names, .. } = generate::odd(rng);
-        if rng.chance(80) {
-            let room = rng.pick(&[200, 1000, 4000]);
-            image.extend(rng.bytes(room));
-        }
-        (image, names)
+        let version = generate::some_version(rng, 10);
+        start_of(rng, version)
     }
+}
+
+fn start_of(rng: &mut Rng, version: u32) -> (Vec<u8>, Vec<Vec<u8>>) {
+    let Layout { mut image, names, .. } = generate::odd_of(rng, version);
+    if rng.chance(80) {
+        let room = rng.pick(&[200, 1000, 4000]);
+        image.extend(rng.bytes(room));
+    }
+    (image, names)
 }
 
 fn runs(check: &mut Check, rng: &mut Rng) {
@@ -303,15 +311,16 @@ fn sheets(check: &mut Check, rng: &mut Rng) {
 /// Around 1,024 names, and around the end of a block full of them.
 fn many_names(check: &mut Check, rng: &mut Rng) {
     let count = rng.between(1019, 1027);
-    let segments = (8 * count).div_ceil(64) + rng.below(2);
-    let length = 384 + 64 * segments;
-    let mut image = blank(length, 256, 4, 384, segments as u64);
-    put32(&mut image, 44, rng.pick(&VERSIONS));
+    let version = generate::some_version(rng, 50);
     let mut names: Vec<_> = (0..count).map(|n| format!("n{n:06}").into_bytes()).collect();
     if rng.chance(30) {
         let (a, b) = (rng.below(count), rng.below(count));
         names[a] = names[b].clone();
     }
+    let segments = segments_for(version, &names) + rng.below(2);
+    let length = 384 + SEGMENT * segments;
+    let mut image = blank(length, 256, 4, 384, segments as u64);
+    put32(&mut image, 44, version);
     let end = put_names(&mut image, 384, names.iter().map(Vec::as_slice));
     if rng.chance(30) {
         image[end..].fill(b'x');
@@ -319,15 +328,20 @@ fn many_names(check: &mut Check, rng: &mut Rng) {
             image[length - 1] = 0;
         }
     }
-    image.extend(vec![0xEE; 3 * length]);
+    if version == V1_0 {
+        old_names(rng, &mut image, count);
+    }
+    image.extend(vec![0xEE; 25_000]);
     check.load(&image);
     check.open();
     for n in [0, 1, 1000, 1023, 1024, count as u64] {
         check.name(n);
     }
     let known = if rng.chance(50) { &names[..] } else { &[] };
-    let mut rows = generate::rows(rng, version(&image), known);
-    rows.truncate(8);
+    let mut rows = generate::rows(rng, version, known);
+    // Often just one name too many.
+    let one_more = 1025_usize.saturating_sub(count).max(1);
+    rows.truncate(rng.pick(&[8, one_more]));
     if check.append(&sheet(&rows), u64::MAX).is_some() {
         for row in &rows {
             check.read(0, &row.name);
@@ -335,14 +349,37 @@ fn many_names(check: &mut Check, rng: &mut Rng) {
     }
     check.append(&sheet(&rows), generate::limit(rng));
     check.open();
+    for row in generate::chunk_rows(&image) {
+        check.read(0, &row.name);
+    }
     // 30 goes before 28.
-    let rows = generate::border_rows(rng, version(&image), known);
+    let rows = generate::border_rows(rng, version, known);
     check.append(&sheet(&rows), generate::limit(rng));
+}
+
+/// Many segments of 1.0: bytes behind the names, now and then an end or one that is not closed, near
+/// the 1,024th or anywhere; and a frame whose ids differ in their high bits alone, or not at all.
+fn old_names(rng: &mut Rng, image: &mut [u8], count: usize) {
+    for segment in image[384..][..SEGMENT * count].chunks_mut(SEGMENT) {
+        segment[8..].fill(rng.pick(&[0, b'z']));
+    }
+    let first = rng.pick(&[0, 1018, count - 1]);
+    let at = 384 + SEGMENT * rng.between(first, count - 1);
+    match rng.below(4) {
+        0 => image[at..][..SEGMENT].fill(b'u'),
+        1 => image[at] = 0,
+        _ => {}
+    }
+    let (low, end) = (rng.below(64), image.len() as u64);
+    for slot in 0..rng.below(5) {
+        let id = low + rng.pick(&[0, 64, 128, 256, 320, 512, 768]);
+        Slot::bytes(0, id as u16, end, 4).put(image, 256 + 32 * slot);
+    }
 }
 
 /// Sheets of up to 65 rows, that double both blocks more than once.
 fn many_rows(check: &mut Check, rng: &mut Rng) {
-    check.load(&Vec::from_iter(generate::fresh(rng).into_iter().chain(vec![0x77; 40_000])));
+    check.load(&Vec::from_iter(generate::growing(rng).into_iter().chain(vec![0x77; 40_000])));
     for _ in 0..2 {
         let count = rng.pick(&[1, 31, 32, 33, 62, 63, 64, 65]);
         let mut rows: Vec<_> = (0..count)
@@ -378,7 +415,7 @@ fn many_rows(check: &mut Check, rng: &mut Rng) {
 /// Appends in turn to one image, whole and stopped, until it is full: blocks move again and again.
 fn night(check: &mut Check, rng: &mut Rng) {
     let room = rng.between(20_000, 60_000);
-    check.load(&Vec::from_iter(generate::fresh(rng).into_iter().chain(rng.bytes(room))));
+    check.load(&Vec::from_iter(generate::growing(rng).into_iter().chain(rng.bytes(room))));
     let known = generate::names(rng, 10);
     let mut full = 0;
     while full < 5 {
@@ -410,6 +447,7 @@ fn rising(rng: &mut Rng, count: usize) -> Vec<u64> {
 /// missing anywhere. Behind the list are up to two more slots.
 fn indexed(rng: &mut Rng, frames: &[u64], names: usize) -> (Vec<Vec<u8>>, Vec<u8>) {
     let listed: Vec<_> = (0..names).map(|n| format!("name {n:02}").into_bytes()).collect();
+    let version = rng.pick(&VERSIONS);
     let percent = rng.pick(&[0, 50, 90, 100]);
     let mut entries = Vec::with_capacity(frames.len() * names + 2);
     for &frame in frames {
@@ -420,18 +458,23 @@ fn indexed(rng: &mut Rng, frames: &[u64], names: usize) -> (Vec<Vec<u8>>, Vec<u8
             }
         }
     }
+    if version == V1_0 {
+        generate::shuffle_frames(rng, &mut entries, |entry| entry.frame);
+    }
     let slots = entries.len() + rng.below(3);
-    let data = 256 + 32 * slots + 128;
+    let segments = segments_for(version, &listed);
+    let data = 256 + 32 * slots + SEGMENT * segments;
     for entry in &mut entries {
         entry.location = data as u64 + entry.frame % 4000;
     }
     // The list's end, and a leftover that would be lawful.
     let next = Slot::bytes(frames.last().map_or(0, |last| last + 1), 0, data as u64, 4);
     entries.extend([Slot { location: 0, ..next }, next]);
-    let mut image = blank(data + 4096, 256, slots as u64, (data - 128) as u64, 2);
-    put32(&mut image, 44, rng.pick(&VERSIONS));
+    let list = data - SEGMENT * segments;
+    let mut image = blank(data + 4096, 256, slots as u64, list as u64, segments as u64);
+    put32(&mut image, 44, version);
     put_slots(&mut image, 256, &entries[..slots]);
-    put_names(&mut image, data - 128, listed.iter().map(Vec::as_slice));
+    put_names(&mut image, list, listed.iter().map(Vec::as_slice));
     (listed, image)
 }
 
@@ -508,18 +551,23 @@ fn longest(check: &mut Check, _: &mut Rng) {
         if theirs[..HEAD] != ours[..HEAD] {
             check.fail(|| "create on a long slice: other bytes".into());
         }
-        for image in [&mut *theirs, &mut *ours] {
-            // Both blocks near the end, a chunk up to it, an entry from far below.
-            crate::images::header(image, index as u64, 4, names as u64, 1);
-            put_names(image, names, [&b"a"[..], b"b"]);
-            let slots = [
-                Slot::bytes(0, 0, 256, (index - 256) as u64),
-                Slot::bytes(0, 1, (LONGEST - 1024) as u64, 512),
-            ];
-            put_slots(image, index, &slots);
-        }
         let sheet = sheet(&[Row::bytes(b"c", &[9; 505])]);
-        for (sheet, limit) in [(&sheet[..], 3), (&sheet, u64::MAX), (&sheet, u64::MAX)] {
+        for (version, limit) in [(V1_0, 3), (V2_1, 3), (V2_1, u64::MAX), (V2_1, u64::MAX)] {
+            for image in [&mut *theirs, &mut *ours].into_iter().filter(|_| limit == 3) {
+                // Both blocks near the end, a chunk up to it, an entry from far below.
+                crate::images::header(image, index as u64, 4, names as u64, 2);
+                put32(image, 44, version);
+                image[names..names + 128].fill(0);
+                put_names(image, names, [&b"a"[..], b"b"]);
+                let mut slots = [
+                    Slot::bytes(0, 0, 256, (index - 256) as u64),
+                    Slot::bytes(0, 1, (LONGEST - 1024) as u64, 512),
+                ];
+                if version == V1_0 {
+                    slots.reverse();
+                }
+                put_slots(image, index, &slots);
+            }
             let (mut x, mut y) = ([5; 3], [5; 3]);
             let (a, b) = (library.open(theirs, &mut x), Reference.open(ours, &mut y));
             both(check, "open", (a, [x[0], x[2]]), (b, [y[0], y[2]]));
@@ -535,8 +583,8 @@ fn longest(check: &mut Check, _: &mut Rng) {
             let a = library.probes(theirs, 0, b"b", &mut p);
             let b = Reference.probes(ours, 0, b"b", &mut q);
             both(check, "probes", (a, [p[0], 0]), (b, [q[0], 0]));
-            let a = library.append(theirs, sheet, limit, &mut x);
-            let b = Reference.append(ours, sheet, limit, &mut y);
+            let a = library.append(theirs, &sheet, limit, &mut x);
+            let b = Reference.append(ours, &sheet, limit, &mut y);
             both(check, "append", (a, x), (b, y));
             if theirs[..HEAD] != ours[..HEAD] || theirs[index - 64..] != ours[index - 64..] {
                 check.fail(|| "append on a long slice: other bytes".into());
@@ -602,6 +650,11 @@ fn gap_runs(check: &mut Check, rng: &mut Rng) {
     run_from(check, rng, start);
 }
 
+fn old_runs(check: &mut Check, rng: &mut Rng) {
+    let start = start_of(rng, V1_0);
+    run_from(check, rng, start);
+}
+
 fn run_from(check: &mut Check, rng: &mut Rng, (mut image, known): (Vec<u8>, Vec<Vec<u8>>)) {
     if rng.chance(25) {
         generate::put_borders(rng, &mut image);
@@ -627,4 +680,61 @@ fn run_from(check: &mut Check, rng: &mut Rng, (mut image, known): (Vec<u8>, Vec<
         Ok(moments) => check.moments += moments,
         Err(what) => check.fail(|| what),
     }
+}
+
+/// Name blocks of 1.0, lawful or not; all names that may be read there are asked for.
+fn segments(check: &mut Check, rng: &mut Rng) {
+    let count = rng.between(1, 6);
+    let block = generate::any_segments(rng, count);
+    let version = generate::some_version(rng, 90);
+    let slots = rng.below(4);
+    let names = 256 + 32 * slots;
+    let (behind, data) = (names + block.len(), names + block.len() + SEGMENT);
+    let mut image = blank(data + 16, 256, slots as u64, names as u64, count as u64);
+    put32(&mut image, 44, version);
+    image[names..behind].copy_from_slice(&block);
+    if rng.chance(30) {
+        generate::put_segment(rng, &mut image[behind..data], b"behind the block");
+    }
+    let ids = rng.between(1, count);
+    for slot in 0..rng.below(slots + 1) {
+        let id = rng.below(ids) as u16;
+        Slot::bytes(slot as u64 / 2, id, data as u64, 4).put(&mut image, 256 + 32 * slot);
+    }
+    check.load(&image);
+    // Up to a zero, in their segment or not, or all of it.
+    let until_zero =
+        |text: &[u8]| text.iter().position(|&byte| byte == 0).map(|at| text[..at].to_vec());
+    let asked: Vec<_> = (0..block.len())
+        .step_by(SEGMENT)
+        .flat_map(|at| [until_zero(&block[at..]), Some(block[at..at + SEGMENT].to_vec())])
+        .flatten()
+        .collect();
+    check.read_all(&asked);
+    touch(check, &sheet(&[Row::bytes(b"a", b"1")]), generate::limit(rng));
+}
+
+/// Entries in the order of writing, lawful or not, and appends that 20 refuses whatever else is
+/// wrong with them.
+fn written(check: &mut Check, rng: &mut Rng) {
+    let version = generate::some_version(rng, 80);
+    let count = rng.between(1, 6);
+    let names = generate::short_names(rng, count);
+    let most = rng.below(14);
+    let keys = generate::written_keys(rng, most, names.len());
+    let image = generate::written_image(rng, version, &keys, &names);
+    check.load(&image);
+    check.read_all(&names);
+    for _ in 0..2 {
+        let rows = generate::border_rows(rng, version, &names);
+        let sheet = match rng.below(3) {
+            0 => generate::bent_sheet(rng, rows),
+            1 => generate::damaged_sheet(rng, &rows),
+            _ => sheet(&rows),
+        };
+        for limit in [0, generate::limit(rng)] {
+            check.append(&sheet, limit);
+        }
+    }
+    check.open();
 }

@@ -4,11 +4,17 @@ use std::collections::BTreeSet;
 
 pub const MAGIC: [u8; 8] = [0xDF, 0x65, 0xDF, 0x65, 0xDF, 0x65, 0xDF, 0x65];
 
+pub const V1_0: u32 = 0x0001_0000;
 pub const V2_0: u32 = 0x0002_0000;
 pub const V2_1: u32 = 0x0002_0001;
 
 /// Those that open.
-pub const VERSIONS: [u32; 2] = [V2_0, V2_1];
+pub const VERSIONS: [u32; 3] = [V1_0, V2_0, V2_1];
+
+/// Those that take appends.
+pub const GROWING: [u32; 2] = [V2_0, V2_1];
+
+pub const SEGMENT: usize = 64;
 
 /// No image that opens has a frame above.
 pub const GREATEST_FRAME: u64 = 4_294_967_294;
@@ -58,16 +64,32 @@ pub fn header(image: &mut [u8], index: u64, slots: u64, names: u64, segments: u6
     put32(image, 44, V2_1);
 }
 
-/// Writes names, each with its zero, and answers where their list ends.
+/// Bytes that a name takes in a list: in 1.0 a segment, else its own and a zero.
+pub fn room(version: u32, name: &[u8]) -> usize {
+    match version {
+        V1_0 => SEGMENT,
+        _ => name.len() + 1,
+    }
+}
+
+/// Segments that names need in an image of this version.
+pub fn segments_for(version: u32, names: &[impl AsRef<[u8]>]) -> usize {
+    names.iter().map(|name| room(version, name.as_ref())).sum::<usize>().div_ceil(SEGMENT)
+}
+
+/// Writes names, each with its zero, as the image's version lists them, and answers where their list
+/// ends.
 pub fn put_names<'a>(
     image: &mut [u8],
     at: usize,
     names: impl IntoIterator<Item = &'a [u8]>,
 ) -> usize {
+    let version = version(image);
     names.into_iter().fold(at, |at, name| {
         image[at..][..name.len()].copy_from_slice(name);
         image[at + name.len()] = 0;
-        at + name.len() + 1
+        assert!(name.len() < room(version, name), "a name of 1.0 has at most 63 bytes");
+        at + room(version, name)
     })
 }
 
@@ -110,6 +132,20 @@ pub fn put_slots(image: &mut [u8], at: usize, slots: &[Slot]) {
     for (number, slot) in slots.iter().enumerate() {
         slot.put(image, at + 32 * number);
     }
+}
+
+/// What a search must probe that finds nothing in a frame: of 1.0 its entries, and those next to
+/// them; else none of it, and one at least beside the place.
+pub fn around(image: &[u8], entries: u64, frame: u64) -> (u64, u64) {
+    if version(image) != V1_0 {
+        return (0, 1);
+    }
+    let index = get64(image, 8) as usize;
+    let slots = image.get(index..).unwrap_or_default().chunks_exact(32).take(entries as usize);
+    let frames: Vec<u64> = slots.map(|slot| get64(slot, 0)).collect();
+    let inside = frames.iter().filter(|&&other| other == frame).count() as u64;
+    let [before, behind] = [frames.first() < Some(&frame), frames.last() > Some(&frame)];
+    (inside, u64::from(before) + u64::from(behind))
 }
 
 /// A row of an append sheet.
@@ -167,7 +203,7 @@ pub fn sheet(rows: &[Row]) -> Vec<u8> {
     sheet
 }
 
-/// The rows of a sheet that none of 22 to 27 refuses on an image of this version.
+/// The rows of a sheet that none of 22 to 27 refuses by the types of this version.
 pub fn lawful_rows(sheet: &[u8], version: u32) -> Option<Vec<Row>> {
     let count = u32::from_le_bytes(sheet.get(..4)?.try_into().unwrap()) as usize;
     if !(1..=64).contains(&count) {

@@ -150,6 +150,67 @@ faults! {
     ThirtyNotAtLimitZero,
     ThirtyForImage,
     NanQuietedWhenRead,
+    Version1_0Refused,
+    Version1ByMajor,
+    RunningNamesIn1_0,
+    SegmentNamesIn2_0,
+    SecondSegmentSkipped,
+    UnclosedSegmentPassed,
+    UnclosedSegmentCut,
+    NextSegmentCloses,
+    NineOfFirstSegmentOnly,
+    NineOfLastSegmentOnly,
+    NineBehindListedSegments,
+    EmptySegmentsSkipped,
+    EmptySegmentsNamed,
+    TrailingBytesNamed,
+    WholeSegmentsCompared,
+    TenBeforeNineIn1_0,
+    TenLeftOutIn1_0,
+    TenOfSegments,
+    UsedNamesInHeader,
+    UsedSlotsInHeader,
+    EverySlotUsed,
+    OneSlotMoreRead,
+    OneSegmentMoreRead,
+    SeventeenOfListedSegments,
+    CharacterKnownIn1_0,
+    FifteenBeforeFourteenIn1_0,
+    SortedIn1_0,
+    WrittenOrderIn2_0,
+    OnlyNeighboursCompared,
+    FrameMayFallIn1_0,
+    SecondEntryPassed,
+    IdOnceInList,
+    LastFrameOfAnother,
+    NoFrameIsZero,
+    NoFrameIsFirstRefused,
+    NoFrameIsLast,
+    LastFramesIn32Bits,
+    IdsIn8Bits,
+    IdsInOneWord,
+    GapsRefusedIn1_0,
+    FirstFrameAboveZeroRefusedIn1_0,
+    EighteenLeftOutIn1_0,
+    HalvesToIdIn1_0,
+    WalkOneShort,
+    WalkNotStopped,
+    WalkIntoNextFrame,
+    WalkFromListStart,
+    WalkFromAnyOfFrame,
+    WalkBackwards,
+    WalkGoesOnAtFind,
+    PlaceNotReadAgain,
+    NextFrameNotProbed,
+    AppendTo1_0,
+    TwentyFor2_0,
+    TwentyBeforeOpening,
+    TwentyAfterTwentyOne,
+    TwentyAfterThirtyOne,
+    TwentyAfterTwentyTwo,
+    TwentyAfterTwentyNine,
+    TwentyNotAtLimitZero,
+    TwentyUpgrades,
 }
 
 pub struct Model {
@@ -163,6 +224,7 @@ fn number(bytes: &[u8], at: usize, width: usize) -> u128 {
     (0..width).rev().fold(0, |sum, n| sum * 256 + u128::from(bytes[at + n]))
 }
 
+const VERSION_1_0: u128 = 0x0001_0000;
 const VERSION_2_0: u128 = 0x0002_0000;
 const VERSION_2_1: u128 = 0x0002_0001;
 
@@ -243,15 +305,40 @@ fn digits(number: usize) -> usize {
 }
 
 /// Of the list of probes: it "holds the found entry, or else those next to its place; n entries
-/// take at most one probe more than n has binary digits". No word of this is about halving.
-fn kept(entries: &[Listed], key: Key, probed: &[usize]) -> bool {
-    let place = entries.iter().filter(|entry| entry.key() < key).count();
+/// take at most one probe more than n has binary digits". In 1.0 "the bound grows by" the frame's
+/// "entry count, and without a find the list holds its entries and those next to their place". No
+/// word of this is about halving.
+fn kept(entries: &[Listed], key: Key, version: u128, probed: &[usize]) -> bool {
+    let amid = |entry: &&Listed| version == VERSION_1_0 && entry.frame == key.0;
+    let inside = entries.iter().filter(amid).count();
+    let below = |entry: &&Listed| !amid(entry) && entry.key() < key;
+    let place = entries.iter().filter(below).count();
     let held = match entries.iter().position(|entry| entry.key() == key) {
         Some(found) => found..found + 1,
-        None => place.saturating_sub(1)..entries.len().min(place + 1),
+        None => place.saturating_sub(1)..entries.len().min(place + inside + 1),
     };
-    probed.len() <= digits(entries.len()) + 1 && held.into_iter().all(|at| probed.contains(&at))
+    let few = probed.len() <= digits(entries.len()) + 1 + inside;
+    few && held.into_iter().all(|at| probed.contains(&at))
 }
+
+/// The faults of a search beside which no other one is made: it has found what it read last, or
+/// nothing.
+fn of_last_probe(fault: Fault) -> bool {
+    use Fault::*;
+    [IdNotCompared, SlotsSearched, HalvesToIdIn1_0, WalkOneShort, WalkFromAnyOfFrame]
+        .contains(&fault)
+}
+
+/// With these faults 20 is not the first number of an append.
+const TWENTY_LATER: [Option<Fault>; 4] = [
+    Some(Fault::TwentyAfterTwentyOne),
+    Some(Fault::TwentyAfterThirtyOne),
+    Some(Fault::TwentyAfterTwentyTwo),
+    Some(Fault::TwentyAfterTwentyNine),
+];
+
+/// Start and length.
+type Name = (usize, usize);
 
 struct View {
     version: u128,
@@ -259,8 +346,7 @@ struct View {
     slots: u128,
     names_at: u128,
     segments: u128,
-    /// Start and length of each name.
-    names: Vec<(usize, usize)>,
+    names: Vec<Name>,
     list_end: usize,
     entries: Vec<Listed>,
     frames: u128,
@@ -315,10 +401,8 @@ impl Model {
         if number(image, 0, 8) != 0x65DF_65DF_65DF_65DF {
             return Err(3);
         }
-        // "Number 4 is for versions other than these two."
         let version = number(image, 44, 4);
-        let excused = self.has(Fault::VersionByMajor) && version >> 16 == 2;
-        if version != VERSION_2_0 && version != VERSION_2_1 && !excused {
+        if !self.opens(version) {
             return Err(4);
         }
         for text in [48, 112] {
@@ -345,47 +429,34 @@ impl Model {
             return Err(8);
         }
 
-        let (start, end) = (names_at as usize, names_end as usize);
-        let mut names = Vec::new();
-        let mut at = start;
-        while at < end && image[at] != 0 {
-            if self.has(Fault::TenBeforeNine) && names.len() == 1024 {
-                return Err(10);
-            }
-            let mut close = at;
-            while close < end && image[close] != 0 {
-                close += 1;
-            }
-            if close == end || self.has(Fault::NamesOver63Refused) && close - at > 63 {
-                return Err(9);
-            }
-            names.push((at, close - at));
-            at = close + 1;
-        }
-        let list_end = at - start;
-        let text = |(at, length): (usize, usize)| &image[at..at + length];
-        // Sorted, equal names are neighbours.
-        let mut sorted: Vec<_> = names.iter().copied().map(text).collect();
-        sorted.sort_unstable();
-        let equal = sorted.windows(2).any(|pair| pair[0] == pair[1]);
-        if equal && self.has(Fault::ElevenBeforeTen) {
-            return Err(11);
-        }
-        if names.len() > 1024 {
-            return Err(10);
-        }
-        if equal {
-            return Err(11);
-        }
+        let (names, list_end) = self.names(image, version, (names_at, names_end))?;
+        self.names_listed(image, version, &names, segments)?;
 
         let count = names.len() as u128;
+        let name_block = match version {
+            VERSION_1_0 if self.has(Fault::SeventeenOfListedSegments) => {
+                (names_at, names_at + list_end as u128)
+            }
+            _ => name_block,
+        };
         let limits = Limits { version, length, names: count, index: index_block, name_block };
         let mut entries: Vec<Listed> = Vec::new();
         let mut worst = None;
-        for slot in 0..slots {
+        // "No header field counts used slots, whatever 001 says."
+        let used = match version {
+            VERSION_1_0 if self.has(Fault::UsedSlotsInHeader) => slots.min(number(image, 176, 8)),
+            VERSION_1_0 if self.has(Fault::OneSlotMoreRead) => {
+                (slots + 1).min((length - index) / 32)
+            }
+            _ => slots,
+        };
+        for slot in 0..used {
             let entry = Listed::at(image, (index + 32 * slot) as usize);
             if self.has(Fault::TestsBeforeListEnd) && entry.location == 0 && entry.kind > 11 {
                 return Err(13);
+            }
+            if entry.location == 0 && version == VERSION_1_0 && self.has(Fault::EverySlotUsed) {
+                return Err(12);
             }
             if entry.location == 0 {
                 break;
@@ -402,11 +473,161 @@ impl Model {
         if let Some(verdict) = worst {
             return Err(verdict);
         }
-        if self.has(Fault::EighteenAtListEnd) && entries.iter().any(|entry| self.late(entry)) {
+        let late = |entry: &Listed| self.late(entry, version);
+        if self.has(Fault::EighteenAtListEnd) && entries.iter().any(late) {
             return Err(18);
         }
         let frames = self.frames(&entries);
         Ok(View { version, index, slots, names_at, segments, names, list_end, entries, frames })
+    }
+
+    /// "Number 4 is for versions other than these two", and "version 0x00010000, which 4 no longer
+    /// refuses".
+    fn opens(&self, version: u128) -> bool {
+        match version {
+            VERSION_1_0 => !self.has(Fault::Version1_0Refused),
+            VERSION_2_0 | VERSION_2_1 => true,
+            _ => match version >> 16 {
+                1 => self.has(Fault::Version1ByMajor),
+                2 => self.has(Fault::VersionByMajor),
+                _ => false,
+            },
+        }
+    }
+
+    /// The names of a block and the length of their list.
+    fn names(
+        &self,
+        image: &[u8],
+        version: u128,
+        (start, end): (u128, u128),
+    ) -> Verdict<(Vec<Name>, usize)> {
+        let (start, end) = (start as usize, end as usize);
+        let segments = match version {
+            VERSION_1_0 => !self.has(Fault::RunningNamesIn1_0),
+            VERSION_2_0 => self.has(Fault::SegmentNamesIn2_0),
+            _ => false,
+        };
+        if segments {
+            self.segment_names(image, start, end)
+        } else {
+            self.running_names(image, start, end)
+        }
+    }
+
+    /// "Names follow one another, each closed by a zero byte. The list ends at the first name that
+    /// would start with zero, or at the end of the block."
+    fn running_names(&self, image: &[u8], start: usize, end: usize) -> Verdict<(Vec<Name>, usize)> {
+        let mut names = Vec::new();
+        let mut at = start;
+        while at < end && image[at] != 0 {
+            if self.has(Fault::TenBeforeNine) && names.len() == 1024 {
+                return Err(10);
+            }
+            let mut close = at;
+            while close < end && image[close] != 0 {
+                close += 1;
+            }
+            if close == end || self.has(Fault::NamesOver63Refused) && close - at > 63 {
+                return Err(9);
+            }
+            names.push((at, close - at));
+            at = close + 1;
+        }
+        Ok((names, at - start))
+    }
+
+    /// "Names in 64-byte segments, each with a closing zero in its segment (else 9), the list ending
+    /// at the first segment that starts with zero."
+    fn segment_names(&self, image: &[u8], start: usize, end: usize) -> Verdict<(Vec<Name>, usize)> {
+        let more = self.has(Fault::OneSegmentMoreRead) && end + 64 <= image.len();
+        let end = if more { end + 64 } else { end };
+        let step = if self.has(Fault::SecondSegmentSkipped) { 128 } else { 64 };
+        let mut names = Vec::new();
+        let mut at = start;
+        while at < end && !self.ends_segments(image, at) {
+            if self.has(Fault::TenBeforeNineIn1_0) && names.len() == 1024 {
+                return Err(10);
+            }
+            if image[at] != 0 || self.has(Fault::EmptySegmentsNamed) {
+                let last = at + 64 == end || image[at + 64] == 0;
+                let place = (at == start, last);
+                names.push((at, self.segment_name(image, at, end, place)?));
+            }
+            at += step;
+        }
+        let unclosed = |at: usize| !image[at..at + 64].contains(&0);
+        let mut behind = (at.min(end)..end).step_by(64);
+        if self.has(Fault::NineBehindListedSegments) && behind.any(unclosed) {
+            return Err(9);
+        }
+        if self.has(Fault::UsedNamesInHeader) {
+            names.truncate(number(image, 184, 8).min(1 << 20) as usize);
+        }
+        Ok((names, at.min(end) - start))
+    }
+
+    fn ends_segments(&self, image: &[u8], at: usize) -> bool {
+        let goes_on = self.has(Fault::EmptySegmentsSkipped) || self.has(Fault::EmptySegmentsNamed);
+        image[at] == 0 && !goes_on
+    }
+
+    /// The length of the name whose segment this is, in a block that ends there: "what stands before
+    /// the first zero of its segment". It may be the first or the last one of the list.
+    fn segment_name(
+        &self,
+        image: &[u8],
+        at: usize,
+        end: usize,
+        (first, last): (bool, bool),
+    ) -> Verdict<usize> {
+        let segment = &image[at..at + 64];
+        let zero = segment.iter().position(|&byte| byte == 0);
+        let trailing = segment.iter().rposition(|&byte| byte != 0).map_or(0, |at| at + 1);
+        match (zero, self.fault) {
+            (Some(_), Some(Fault::TrailingBytesNamed)) => Ok(trailing),
+            (Some(zero), _) => Ok(zero),
+            (None, Some(Fault::UnclosedSegmentPassed)) => Ok(64),
+            (None, Some(Fault::UnclosedSegmentCut)) => Ok(63),
+            (None, Some(Fault::NineOfFirstSegmentOnly)) if !first => Ok(64),
+            (None, Some(Fault::NineOfLastSegmentOnly)) if !last => Ok(64),
+            (None, Some(Fault::NextSegmentCloses)) => {
+                image[at..end].iter().position(|&byte| byte == 0).ok_or(9)
+            }
+            (None, _) => Err(9),
+        }
+    }
+
+    /// "More than 1,024 names; two equal names."
+    fn names_listed(
+        &self,
+        image: &[u8],
+        version: u128,
+        names: &[Name],
+        segments: u128,
+    ) -> Verdict<()> {
+        let old = version == VERSION_1_0;
+        let whole = old && self.has(Fault::WholeSegmentsCompared);
+        let text = |&(at, length): &Name| &image[at..at + if whole { 64 } else { length }];
+        // Sorted, equal names are neighbours.
+        let mut sorted: Vec<_> = names.iter().map(text).collect();
+        sorted.sort_unstable();
+        let equal = sorted.windows(2).any(|pair| pair[0] == pair[1]);
+        if equal && self.has(Fault::ElevenBeforeTen) {
+            return Err(11);
+        }
+        let many = match self.fault {
+            Some(Fault::TenLeftOutIn1_0) if old => false,
+            Some(Fault::TenOfSegments) if old => segments > 1024,
+            _ => names.len() > 1024,
+        };
+        if many {
+            return Err(10);
+        }
+        if equal {
+            return Err(11);
+        }
+        Ok(())
     }
 
     /// "The number of frames stays the last entry's frame plus 1."
@@ -430,7 +651,8 @@ impl Model {
     fn known_entry(&self, kind: u8, version: u128) -> bool {
         match self.fault {
             Some(Fault::TypeZeroKnown) if kind == 0 => true,
-            Some(Fault::CharacterKnownIn2_0) if kind == 11 => true,
+            Some(Fault::CharacterKnownIn2_0) if kind == 11 && version == VERSION_2_0 => true,
+            Some(Fault::CharacterKnownIn1_0) if kind == 11 && version == VERSION_1_0 => true,
             Some(Fault::CharacterUnknownIn2_1) if kind == 11 => false,
             _ => self.known(kind, version),
         }
@@ -445,8 +667,62 @@ impl Model {
         }
     }
 
+    fn follows(&self, entry: &Listed, before: &[Listed], version: u128) -> bool {
+        let written = match version {
+            VERSION_1_0 => !self.has(Fault::SortedIn1_0),
+            VERSION_2_0 => self.has(Fault::WrittenOrderIn2_0),
+            _ => false,
+        };
+        if written {
+            self.follows_written(entry, before)
+        } else {
+            self.follows_sorted(entry, before.last())
+        }
+    }
+
+    /// Of 1.0: "A falling frame, or a second entry of one frame with one id, gives 15."
+    fn follows_written(&self, entry: &Listed, before: &[Listed]) -> bool {
+        let last = before.last().map(|last| last.frame);
+        match self.fault {
+            Some(Fault::GapsRefusedIn1_0) if last.is_some_and(|last| entry.frame > last + 1) => {
+                false
+            }
+            Some(Fault::FirstFrameAboveZeroRefusedIn1_0) if last.is_none() => entry.frame == 0,
+            Some(Fault::FrameMayFallIn1_0) => !self.is_second(entry, before),
+            _ => last <= Some(entry.frame) && !self.is_second(entry, before),
+        }
+    }
+
+    /// Whether an entry before it has its frame and its id.
+    fn is_second(&self, entry: &Listed, before: &[Listed]) -> bool {
+        // The frames do not fall, so those of its own stand together.
+        let frame = before.iter().rev().take_while(|other| other.frame == entry.frame);
+        let mut ids = frame.map(|other| other.id);
+        // As a table of the last frame of each id has it.
+        let last = |id: u128| before.iter().rev().find(|other| other.id == id).map(|of| of.frame);
+        match self.fault {
+            Some(Fault::OnlyNeighboursCompared) => ids.next() == Some(entry.id),
+            Some(Fault::SecondEntryPassed) => false,
+            Some(Fault::IdOnceInList) => last(entry.id).is_some(),
+            Some(Fault::LastFrameOfAnother) => {
+                last(entry.id).is_some_and(|frame| frame == before[before.len() - 1].frame)
+            }
+            Some(Fault::NoFrameIsZero) => last(entry.id).unwrap_or(0) == entry.frame,
+            Some(Fault::NoFrameIsFirstRefused) => {
+                last(entry.id).unwrap_or(4_294_967_295) == entry.frame
+            }
+            Some(Fault::NoFrameIsLast) => last(entry.id).unwrap_or(u64::MAX.into()) == entry.frame,
+            Some(Fault::LastFramesIn32Bits) => {
+                last(entry.id).is_some_and(|frame| frame == entry.frame % (1 << 32))
+            }
+            Some(Fault::IdsIn8Bits) => ids.any(|id| id % 256 == entry.id % 256),
+            Some(Fault::IdsInOneWord) => ids.any(|id| id % 64 == entry.id % 64),
+            _ => ids.any(|id| id == entry.id),
+        }
+    }
+
     /// "15 is now given only when (frame, id) isn't above the entry before", both as one number.
-    fn follows(&self, entry: &Listed, before: Option<&Listed>) -> bool {
+    fn follows_sorted(&self, entry: &Listed, before: Option<&Listed>) -> bool {
         let Some(before) = before else {
             return entry.frame == 0 || !self.has(Fault::FirstFrameAboveZeroRefused);
         };
@@ -461,9 +737,10 @@ impl Model {
     }
 
     /// "New 18, after 17 for the same entry: frame above 4,294,967,294."
-    fn late(&self, entry: &Listed) -> bool {
+    fn late(&self, entry: &Listed, version: u128) -> bool {
         match self.fault {
             Some(Fault::EighteenLeftOut) => false,
+            Some(Fault::EighteenLeftOutIn1_0) if version == VERSION_1_0 => false,
             Some(Fault::EighteenFromOneLess) => entry.frame > 4_294_967_293,
             Some(Fault::EighteenFromOneMore) => entry.frame > 4_294_967_295,
             _ => entry.frame > 4_294_967_294,
@@ -471,7 +748,8 @@ impl Model {
     }
 
     fn entry_verdict(&self, entry: &Listed, before: &[Listed], limits: &Limits) -> u64 {
-        if self.late(entry) && self.has(Fault::EighteenBeforeTwelve) {
+        let late = self.late(entry, limits.version);
+        if late && self.has(Fault::EighteenBeforeTwelve) {
             return 18;
         }
         let negative = entry.location >= 1 << 63 && !self.has(Fault::LocationUnsigned);
@@ -481,13 +759,18 @@ impl Model {
         if !self.known_entry(entry.kind, limits.version) {
             return 13;
         }
+        let follows = self.follows(entry, before, limits.version);
+        let early = self.has(Fault::FifteenBeforeFourteenIn1_0) && limits.version == VERSION_1_0;
+        if early && !follows {
+            return 15;
+        }
         if entry.id >= limits.names {
             return 14;
         }
-        if !self.follows(entry, before.last()) {
+        if !follows {
             return 15;
         }
-        if self.late(entry) && self.has(Fault::EighteenBeforeSixteen) {
+        if late && self.has(Fault::EighteenBeforeSixteen) {
             return 18;
         }
         let bytes = self.wrap(Fault::ChunkSizeWraps, entry.length());
@@ -495,7 +778,7 @@ impl Model {
         if end > limits.length {
             return 16;
         }
-        if self.late(entry) && self.has(Fault::EighteenBeforeSeventeen) {
+        if late && self.has(Fault::EighteenBeforeSeventeen) {
             return 18;
         }
         let chunk = (entry.location, end);
@@ -511,7 +794,7 @@ impl Model {
         if self.has(Fault::OverlappingChunksRefused) && before.iter().any(meets) {
             return 17;
         }
-        if self.late(entry) && !self.has(Fault::EighteenAtListEnd) {
+        if late && !self.has(Fault::EighteenAtListEnd) {
             return 18;
         }
         0
@@ -521,14 +804,14 @@ impl Model {
         self.search(image, frame, name).0
     }
 
-    /// What a lookup answers, found by a walk; and "a defined list of the entries probed", by their
-    /// places.
+    /// What a lookup answers, found by going through all entries; and "a defined list of the entries
+    /// probed", by their places.
     fn search(&self, image: &[u8], frame: u64, name: &[u8]) -> (Verdict<Listed>, Vec<usize>) {
         let view = match self.view(image) {
             Ok(view) => view,
             Err(number) => return (Err(number), Vec::new()),
         };
-        let listed = |&(at, length): &(usize, usize)| &image[at..at + length] == name;
+        let listed = |&(at, length): &Name| &image[at..at + length] == name;
         let id = view.names.iter().position(listed);
         let wraps = self.has(Fault::LookupFrameWraps);
         let frame = u128::from(if wraps { frame % (1 << 32) } else { frame });
@@ -541,35 +824,37 @@ impl Model {
             None => 41,
             Some(_) => 0,
         };
+        let version = view.version;
         let mut entries = view.entries;
         if number > 0 {
             let early = self.has(Fault::SearchBeforeTests);
-            let probed =
-                if early { self.halved(&entries, key, 0, entries.len()) } else { Vec::new() };
+            let probed = if early { self.probed(&entries, key, version) } else { Vec::new() };
             return (Err(number), probed);
         }
         let here = |entry: &Listed| entry.key() == key;
-        let walked = entries.iter().position(here);
+        let through = entries.iter().position(here);
         let before = entries.iter().rposition(|entry| entry.key() < key);
         if self.has(Fault::SlotsSearched) {
             let slot = |slot| Listed::at(image, (view.index + 32 * slot) as usize);
             entries = (0..view.slots).map(slot).collect();
         }
-        let probed = self.halved(&entries, key, 0, entries.len());
+        let probed = self.probed(&entries, key, version);
         if self.fault.is_none() {
-            assert!(kept(&entries, key, &probed), "{key:?} of {}: {probed:?}", entries.len());
+            let kept = kept(&entries, key, version, &probed);
+            assert!(kept, "{key:?} of {}: {probed:?}", entries.len());
         }
+        let last = probed.last().copied();
         let found = match self.fault {
-            Some(Fault::EntryBeforeTaken) => walked.or(before),
-            // No walk stands beside these.
-            Some(Fault::IdNotCompared | Fault::SlotsSearched) => {
-                probed.last().copied().filter(|&place| here(&entries[place]))
+            Some(Fault::EntryBeforeTaken) => through.or(before),
+            Some(fault) if of_last_probe(fault) => last.filter(|&place| here(&entries[place])),
+            Some(Fault::WalkIntoNextFrame) if version == VERSION_1_0 => {
+                last.filter(|&place| entries[place].id == key.1)
             }
-            _ => walked,
+            _ => through,
         };
         let probed = match self.fault {
             Some(Fault::ProbesOfWalk) => {
-                (0..walked.map_or(entries.len(), |place| place + 1)).collect()
+                (0..through.map_or(entries.len(), |place| place + 1)).collect()
             }
             Some(Fault::ProbesByDigits) => vec![0; digits(entries.len()) + 1],
             Some(Fault::NoChunkNoProbes) if found.is_none() => Vec::new(),
@@ -578,34 +863,105 @@ impl Model {
         (found.map(|place| entries[place]).ok_or(42), probed)
     }
 
-    /// "The search for an entry should halve it": the places probed from here on, where `count`
-    /// entries are left, from the place `from` on. Of two in the middle the upper one is probed.
-    fn halved(&self, entries: &[Listed], key: Key, from: usize, count: usize) -> Vec<usize> {
+    /// "The list is sorted by frame and id, so the search for an entry should halve it." In 1.0 it
+    /// "halves to the frame and walks it".
+    fn probed(&self, entries: &[Listed], key: Key, version: u128) -> Vec<usize> {
+        let to_frame = version == VERSION_1_0 && !self.has(Fault::HalvesToIdIn1_0);
+        let least = match self.fault {
+            _ if !to_frame => key,
+            Some(Fault::WalkBackwards) => (key.0 + 1, 0),
+            _ => (key.0, 0),
+        };
+        let (mut probed, place) = self.halved(entries, least, 0, entries.len());
+        let walk = if to_frame {
+            self.walked(entries, key, place, &mut probed)
+        } else {
+            self.read_at(entries, key, place)
+        };
+        [probed, walk].concat()
+    }
+
+    /// The places probed from here on, where `count` entries are left, from the place `from` on, and
+    /// the place at which none is left. Of two in the middle the upper one is probed.
+    fn halved(
+        &self,
+        entries: &[Listed],
+        least: Key,
+        from: usize,
+        count: usize,
+    ) -> (Vec<usize>, usize) {
         if count == 0 {
-            // All before are below the key, the others are not. What stands here is read.
-            let walked = entries[from..].iter().take_while(|entry| entry.key() < key).count();
-            let read = match self.fault {
-                Some(Fault::LastProbeNotCounted) => 0,
-                Some(Fault::HalvesToFrame) => walked + 1,
-                _ => 1,
-            };
-            return (from..entries.len()).take(read).collect();
+            return (Vec::new(), from);
         }
         let half = if self.has(Fault::MiddleBelow) { (count - 1) / 2 } else { count / 2 };
         let middle = from + half;
         let entry = entries[middle];
         let below = match self.fault {
-            Some(Fault::IdNotCompared | Fault::HalvesToFrame) => entry.frame < key.0,
-            _ => entry.key() < key,
+            Some(Fault::IdNotCompared | Fault::HalvesToFrame) => entry.frame < least.0,
+            _ => entry.key() < least,
         };
-        let rest = if below {
-            self.halved(entries, key, middle + 1, count - half - 1)
-        } else if entry.key() == key && self.has(Fault::SearchEndsAtFind) {
-            Vec::new()
+        let (rest, place) = if below {
+            self.halved(entries, least, middle + 1, count - half - 1)
+        } else if entry.key() == least && self.has(Fault::SearchEndsAtFind) {
+            (Vec::new(), entries.len())
         } else {
-            self.halved(entries, key, from, half)
+            self.halved(entries, least, from, half)
         };
-        [vec![middle], rest].concat()
+        ([vec![middle], rest].concat(), place)
+    }
+
+    /// All before the place are below the key, the others are not. What stands there is read.
+    fn read_at(&self, entries: &[Listed], key: Key, place: usize) -> Vec<usize> {
+        let below = entries[place..].iter().take_while(|entry| entry.key() < key).count();
+        let read = match self.fault {
+            Some(Fault::LastProbeNotCounted) => 0,
+            Some(Fault::HalvesToFrame) => below + 1,
+            _ => 1,
+        };
+        (place..entries.len()).take(read).collect()
+    }
+
+    /// The walk of a frame whose place was found by these probes: up to the entry sought, or to the
+    /// first of another frame.
+    fn walked(
+        &self,
+        entries: &[Listed],
+        key: Key,
+        place: usize,
+        probed: &mut Vec<usize>,
+    ) -> Vec<usize> {
+        let of_frame = |&at: &usize| entries[at].frame == key.0;
+        let frame = (place..entries.len()).take_while(of_frame).count();
+        let mut walk: Vec<usize> = (place..entries.len()).take(frame + 1).collect();
+        match self.fault {
+            Some(Fault::WalkOneShort) => walk.truncate(frame.saturating_sub(1)),
+            Some(Fault::NextFrameNotProbed) => walk.truncate(frame),
+            Some(Fault::WalkNotStopped | Fault::WalkIntoNextFrame) => {
+                walk = (place..entries.len()).collect();
+            }
+            Some(Fault::WalkFromListStart) => walk = (0..(place + frame + 1)).collect(),
+            Some(Fault::WalkBackwards) => walk = (0..place).rev().collect(),
+            Some(Fault::WalkFromAnyOfFrame) => {
+                // The halving ends at the first entry of the frame that it meets.
+                if let Some(met) = probed.iter().position(of_frame) {
+                    walk.retain(|&at| at >= probed[met]);
+                    probed.truncate(met);
+                }
+            }
+            Some(Fault::PlaceNotReadAgain) if probed.contains(&place) => drop(walk.remove(0)),
+            Some(Fault::LastProbeNotCounted) => drop(walk.pop()),
+            _ => {}
+        }
+        walk.retain(|&at| at < entries.len());
+        let ends = |&at: &usize| match self.fault {
+            Some(Fault::WalkGoesOnAtFind) => false,
+            Some(Fault::WalkIntoNextFrame) => entries[at].id == key.1,
+            Some(Fault::WalkBackwards) => entries[at].frame < key.0 || entries[at].key() == key,
+            _ => entries[at].key() == key,
+        };
+        let last = walk.iter().position(ends).map_or(walk.len(), |last| last + 1);
+        walk.truncate(last);
+        walk
     }
 
     fn row_count(&self, sheet: &[u8]) -> Verdict<usize> {
@@ -779,6 +1135,15 @@ impl Model {
         }
     }
 
+    /// "An append is refused with 20, before 21."
+    fn takes_none(&self, version: u128) -> bool {
+        match version {
+            VERSION_1_0 => !self.has(Fault::AppendTo1_0),
+            VERSION_2_0 => self.has(Fault::TwentyFor2_0),
+            _ => false,
+        }
+    }
+
     /// The frame of an append's entries.
     fn new_frame(&self, view: &View) -> u128 {
         if self.has(Fault::AppendFillsGap) {
@@ -793,7 +1158,15 @@ impl Model {
         if self.has(Fault::ThirtyBeforeOpening) && self.sheet_holds_nan(sheet) {
             return Err(30);
         }
+        let said = image.get(44..48).map(|bytes| number(bytes, 0, 4));
+        if self.has(Fault::TwentyBeforeOpening) && said == Some(VERSION_1_0) {
+            return Err(20);
+        }
         let view = self.view(image)?;
+        let old = self.takes_none(view.version);
+        if old && !TWENTY_LATER.contains(&self.fault) {
+            return Err(20);
+        }
         let full = self.full(&view);
         if full && self.has(Fault::ThirtyOneBeforeTwentyOne) {
             return Err(31);
@@ -805,6 +1178,9 @@ impl Model {
         if odd(view.index, view.slots) || odd(view.names_at, view.segments) {
             return Err(21);
         }
+        if old && self.has(Fault::TwentyAfterTwentyOne) {
+            return Err(20);
+        }
         if full && self.has(Fault::ThirtyOneAfterTwentyTwo) {
             self.row_count(sheet)?;
         }
@@ -813,6 +1189,12 @@ impl Model {
         }
         if full && !self.has(Fault::ThirtyOneAfterTwentyNine) {
             return Err(31);
+        }
+        if old && self.has(Fault::TwentyAfterTwentyTwo) {
+            self.row_count(sheet)?;
+        }
+        if old && !self.has(Fault::TwentyAfterTwentyNine) {
+            return Err(20);
         }
         let rows = self.rows(sheet, view.version)?;
         // "Refused with 30, after 27 and before 28."
@@ -912,6 +1294,9 @@ impl Model {
         }
         if full {
             return Err(31);
+        }
+        if old {
+            return Err(20);
         }
 
         // 1
@@ -1184,6 +1569,11 @@ impl Library for Model {
         let stores = match self.stores(image, sheet) {
             Ok(stores) => stores,
             Err(_) if limit == 0 && self.has(Fault::LimitBeforeTests) => return 0,
+            Err(20) if limit == 0 && self.has(Fault::TwentyNotAtLimitZero) => return 0,
+            Err(20) if self.has(Fault::TwentyUpgrades) => {
+                image[44..48].copy_from_slice(&(VERSION_2_1 as u32).to_le_bytes());
+                return 20;
+            }
             Err(30) if limit == 0 && self.has(Fault::ThirtyNotAtLimitZero) => {
                 return Model { fault: Some(Fault::ThirtyLeftOut) }.append(image, sheet, 0, out);
             }

@@ -64,6 +64,12 @@ impl Rng {
         of[self.below(of.len())]
     }
 
+    pub fn shuffle<T>(&mut self, items: &mut [T]) {
+        for last in (1..items.len()).rev() {
+            items.swap(last, self.below(last + 1));
+        }
+    }
+
     pub fn byte(&mut self) -> u8 {
         self.number() as u8
     }

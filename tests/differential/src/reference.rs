@@ -1,4 +1,4 @@
-//! Document 01 in plain Rust, with what document 02 has changed of it (W-201 to W-205), written
+//! Document 01 in plain Rust, with what document 02 has changed of it (W-201 to W-206), written
 //! from the papers alone.
 //!
 //! It is the independent second opinion of the differential tests and the baseline of the
@@ -71,8 +71,9 @@ fn u64_at(bytes: &[u8], at: usize) -> u64 {
 }
 
 /// A version that opens.
-#[derive(Clone, Copy)]
+#[derive(Clone, Copy, PartialEq, Eq)]
 enum Version {
+    V1_0 = 0x0001_0000,
     V2_0 = 0x0002_0000,
     V2_1 = 0x0002_0001,
 }
@@ -80,12 +81,13 @@ enum Version {
 impl Version {
     fn read(image: &[u8]) -> Option<Version> {
         let number = u32_at(image, 44);
-        [Version::V2_0, Version::V2_1].into_iter().find(|&version| version as u32 == number)
+        let versions = [Version::V1_0, Version::V2_0, Version::V2_1];
+        versions.into_iter().find(|&version| version as u32 == number)
     }
 
     fn last_type(self) -> u8 {
         match self {
-            Version::V2_0 => 10,
+            Version::V1_0 | Version::V2_0 => 10,
             Version::V2_1 => 11,
         }
     }
@@ -163,6 +165,106 @@ impl Block {
     }
 }
 
+/// What 15 asks of the order of entries, each given in turn: whether it may stand behind the others.
+trait Order {
+    fn admits(&mut self, entry: Entry) -> bool;
+}
+
+/// 2.x: frame and id rise.
+#[derive(Default)]
+struct Sorted {
+    last: Option<(u64, u16)>,
+}
+
+impl Order for Sorted {
+    fn admits(&mut self, entry: Entry) -> bool {
+        let key = Some(entry.key());
+        key > self.last.replace(entry.key())
+    }
+}
+
+/// 1.0: no frame falls, and none has an id twice.
+struct Written {
+    last: u64,
+    /// The last frame of each id.
+    frames: Vec<Option<u64>>,
+}
+
+impl Written {
+    fn new(names: usize) -> Written {
+        Written { last: 0, frames: vec![None; names] }
+    }
+}
+
+impl Order for Written {
+    fn admits(&mut self, entry: Entry) -> bool {
+        let falls = entry.frame < self.last;
+        self.last = entry.frame;
+        let before = self.frames[usize::from(entry.id)].replace(entry.frame);
+        !falls && before != Some(entry.frame)
+    }
+}
+
+/// What the entries of an index are tested against.
+struct Limits {
+    version: Version,
+    length: usize,
+    names: usize,
+    index: Block,
+    names_block: Block,
+}
+
+/// The entries that are listed.
+struct List<'a> {
+    entries: &'a [[u8; SLOT]],
+    frames: u64,
+    /// The greatest of 256 and the ends of blocks and chunks.
+    end: usize,
+}
+
+impl Limits {
+    /// Numbers 12 to 18, entry by entry.
+    fn list<'a>(&self, slots: &'a [[u8; SLOT]], mut order: impl Order) -> Answer<List<'a>> {
+        let mut listed = 0;
+        let mut frames = 0;
+        let mut end = self.index.end.max(self.names_block.end);
+        for slot in slots {
+            let entry = Entry::read(slot);
+            if entry.location == 0 {
+                break;
+            }
+            if (entry.location as i64) < HEADER as i64 {
+                return Err(12);
+            }
+            let size = self.version.size_of(entry.kind).ok_or(13_u64)?;
+            if usize::from(entry.id) >= self.names {
+                return Err(14);
+            }
+            if !order.admits(entry) {
+                return Err(15);
+            }
+            let chunk_end = bytes_of(entry.n, entry.m, size)
+                .and_then(|length| length.checked_add(entry.location))
+                .filter(|&end| end <= self.length as u64)
+                .ok_or(16_u64)? as usize;
+            // Both blocks have bytes: one holds this entry, the other its name.
+            let location = entry.location as usize;
+            let blocks = [self.index, self.names_block];
+            let meets = blocks.iter().any(|block| block.meets(location, chunk_end));
+            if meets && location < chunk_end {
+                return Err(17);
+            }
+            if entry.frame > GREATEST_FRAME {
+                return Err(18);
+            }
+            end = end.max(chunk_end);
+            frames = entry.frame + 1;
+            listed += 1;
+        }
+        Ok(List { entries: &slots[..listed], frames, end })
+    }
+}
+
 /// An image that opened.
 struct Image<'a> {
     bytes: &'a [u8],
@@ -204,7 +306,11 @@ impl<'a> Image<'a> {
             return Err(8);
         }
 
-        let (names, list_end) = closed_names(&bytes[names_block.start..names_block.end])?;
+        let block = &bytes[names_block.start..names_block.end];
+        let (names, list_end) = match version {
+            Version::V1_0 => segment_names(block)?,
+            Version::V2_0 | Version::V2_1 => closed_names(block)?,
+        };
         if names.len() > MOST_NAMES {
             return Err(10);
         }
@@ -213,51 +319,22 @@ impl<'a> Image<'a> {
         }
 
         let (slots, _) = bytes[index.start..index.end].as_chunks::<SLOT>();
-        let mut listed = 0;
-        let mut last: Option<(u64, u16)> = None;
-        let mut end = index.end.max(names_block.end);
-        for slot in slots {
-            let entry = Entry::read(slot);
-            if entry.location == 0 {
-                break;
-            }
-            if (entry.location as i64) < HEADER as i64 {
-                return Err(12);
-            }
-            let size = version.size_of(entry.kind).ok_or(13_u64)?;
-            if usize::from(entry.id) >= names.len() {
-                return Err(14);
-            }
-            if last.is_some_and(|last| entry.key() <= last) {
-                return Err(15);
-            }
-            let chunk_end = bytes_of(entry.n, entry.m, size)
-                .and_then(|length| length.checked_add(entry.location))
-                .filter(|&end| end <= bytes.len() as u64)
-                .ok_or(16_u64)? as usize;
-            // Both blocks have bytes: one holds this entry, the other its name.
-            let location = entry.location as usize;
-            let meets = index.meets(location, chunk_end) || names_block.meets(location, chunk_end);
-            if meets && location < chunk_end {
-                return Err(17);
-            }
-            if entry.frame > GREATEST_FRAME {
-                return Err(18);
-            }
-            end = end.max(chunk_end);
-            last = Some(entry.key());
-            listed += 1;
-        }
+        let limits =
+            Limits { version, length: bytes.len(), names: names.len(), index, names_block };
+        let list = match version {
+            Version::V1_0 => limits.list(slots, Written::new(names.len()))?,
+            Version::V2_0 | Version::V2_1 => limits.list(slots, Sorted::default())?,
+        };
         Ok(Image {
             bytes,
             version,
             index,
-            entries: &slots[..listed],
-            frames: last.map_or(0, |(frame, _)| frame + 1),
+            entries: list.entries,
+            frames: list.frames,
             names_block,
             names,
             list_end,
-            end,
+            end: list.end,
         })
     }
 
@@ -273,7 +350,7 @@ impl<'a> Image<'a> {
         self.names.iter().position(|&listed| listed == name).map(|id| id as u16)
     }
 
-    /// What the index is sorted by, of a frame that is there and a name that is listed.
+    /// Frame and id, of a frame that is there and a name that is listed.
     fn key(&self, frame: u64, name: &[u8]) -> Answer<(u64, u16)> {
         if frame >= self.frames {
             return Err(40);
@@ -283,17 +360,31 @@ impl<'a> Image<'a> {
 
     fn lookup(&self, frame: u64, name: &[u8]) -> Answer<Entry> {
         let key = self.key(frame, name)?;
-        self.entries
-            .binary_search_by_key(&key, |slot| Entry::read(slot).key())
-            .map(|found| Entry::read(&self.entries[found]))
-            .map_err(|_| 42)
+        let key_at = |slot: &[u8; SLOT]| Entry::read(slot).key();
+        let found = match self.version {
+            Version::V1_0 => {
+                let place = self.entries.partition_point(|slot| key_at(slot).0 < frame);
+                let walked = self.entries[place..].iter().map(Entry::read);
+                walked.take_while(|entry| entry.frame == frame).find(|entry| entry.key() == key)
+            }
+            Version::V2_0 | Version::V2_1 => {
+                let place = self.entries.binary_search_by_key(&key, key_at).ok();
+                place.map(|place| Entry::read(&self.entries[place]))
+            }
+        };
+        found.ok_or(42)
     }
 
     /// The search of W-202, its probes counted: the middle one of the entries left, or the upper
     /// one of two (W-202 leaves that open, docs/DECISIONS.md does not), until none is left; then the
-    /// first that is not below the key, whose place is found. The standard library's search reads
-    /// others.
+    /// first that is not below the key, whose place is found. In 1.0 that is the place of the frame,
+    /// which is walked: up to the entry sought, or the first behind the frame. The standard
+    /// library's search reads others.
     fn search(&self, key: (u64, u16)) -> Probes {
+        let (least, most) = match self.version {
+            Version::V1_0 => ((key.0, 0), usize::MAX),
+            Version::V2_0 | Version::V2_1 => (key, 1),
+        };
         let mut count = 0;
         let mut probe = |slot: &[u8; SLOT]| {
             count += 1;
@@ -303,14 +394,16 @@ impl<'a> Image<'a> {
         let mut place = 0;
         while !left.is_empty() {
             let half = left.len() / 2;
-            if probe(&left[half]).key() < key {
+            if probe(&left[half]).key() < least {
                 place += half + 1;
                 left = &left[half + 1..];
             } else {
                 left = &left[..half];
             }
         }
-        let found = self.entries.get(place).is_some_and(|slot| probe(slot).key() == key);
+        let mut walked = self.entries[place..].iter().take(most).map(probe);
+        let last = walked.find(|entry| entry.frame != key.0 || entry.id == key.1);
+        let found = last.is_some_and(|entry| entry.key() == key);
         Probes { count, answer: found.then_some(()).ok_or(42) }
     }
 
@@ -322,7 +415,17 @@ impl<'a> Image<'a> {
     }
 }
 
-/// The closed names of a block, and where their list ends.
+/// The names of a block of 1.0, one to a segment, and where their list ends.
+fn segment_names(block: &[u8]) -> Answer<(Vec<&[u8]>, usize)> {
+    let (segments, _) = block.as_chunks::<SEGMENT>();
+    let listed = segments.iter().take_while(|segment| segment[0] != 0);
+    let closed = listed.map(|segment| CStr::from_bytes_until_nul(segment).map(CStr::to_bytes));
+    let names: Vec<_> = closed.collect::<Result<_, _>>().map_err(|_| 9_u64)?;
+    let end = SEGMENT * names.len();
+    Ok((names, end))
+}
+
+/// The closed names of a block of 2.x, and where their list ends.
 fn closed_names(block: &[u8]) -> Answer<(Vec<&[u8]>, usize)> {
     let mut names = Vec::with_capacity(16);
     let mut at = 0;
@@ -537,6 +640,9 @@ fn moved(old: Block, unit: usize, needed: usize, start: usize) -> Option<Block> 
 impl<'s> Plan<'s> {
     fn new(image: &[u8], sheet: &'s [u8]) -> Answer<Plan<'s>> {
         let image = Image::open(image)?;
+        if image.version == Version::V1_0 {
+            return Err(20);
+        }
         let (index, names) = (image.index, image.names_block);
         if index.start % WORD != 0 || names.start % WORD != 0 {
             return Err(21);

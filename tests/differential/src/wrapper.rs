@@ -1,8 +1,10 @@
 //! The safe Rust calls of the package dialmoth say what the C functions say.
 
 use crate::ask::Ask;
-use crate::generate;
-use crate::images::{blank, frames_to_ask, put_names, sheet, size, version, Slot, GREATEST_FRAME};
+use crate::generate::{self, Layout};
+use crate::images::{
+    blank, frames_to_ask, put32, put_names, sheet, size, version, Slot, GREATEST_FRAME, V1_0,
+};
 use crate::library::Linked;
 use crate::random::Rng;
 use dialmoth::{Element, Refusal, Row, Type};
@@ -45,9 +47,13 @@ pub fn hold() {
     }
     let mut rng = Rng::new(7);
     for round in 0..300 {
-        let (mut image, mut known) = match round % 2 {
+        let (mut image, mut known) = match round % 3 {
             0 => (generate::fresh(&mut rng), Vec::new()),
-            _ => generate::gapped(&mut rng),
+            1 => generate::gapped(&mut rng),
+            _ => {
+                let Layout { image, names, .. } = generate::odd_of(&mut rng, V1_0);
+                (image, names)
+            }
         };
         known.push(b"no such name".to_vec());
         appends(&mut rng, &mut image, &mut known);
@@ -63,6 +69,7 @@ pub fn hold() {
     created();
     frames_run_out();
     nans_are_refused();
+    old_files_take_none();
 }
 
 fn appends(rng: &mut Rng, image: &mut [u8], known: &mut Vec<Vec<u8>>) {
@@ -153,4 +160,17 @@ fn nans_are_refused() {
         let stores = dialmoth::append(&mut image, &dialmoth::sheet(&[row]), u64::MAX);
         assert!(stores.is_ok_and(dialmoth::Stores::is_whole));
     }
+}
+
+fn old_files_take_none() {
+    let mut image = blank(1024, 256, 2, 320, 1);
+    put32(&mut image, 44, V1_0);
+    let before = image.clone();
+    let row = Row { name: b"a", kind: Type::U8, n: 1, m: 1, data: b"1" };
+    for limit in [0, 1, u64::MAX] {
+        for sheet in [dialmoth::sheet(&[row]), Vec::new()] {
+            assert_eq!(dialmoth::append(&mut image, &sheet, limit), Err(Refusal(20)));
+        }
+    }
+    assert_eq!(image, before);
 }

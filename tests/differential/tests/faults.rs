@@ -127,6 +127,29 @@ fn a_run_of_appends_with_nans_notices_what_breaks_it() {
     run_notices("a run of appends, word for word", &faults);
 }
 
+/// The same from images of 1.0, which take no append.
+#[test]
+fn a_run_of_appends_to_1_0_notices_what_breaks_it() {
+    use Fault::*;
+    let faults = [
+        Version1_0Refused,
+        RunningNamesIn1_0,
+        EverySlotUsed,
+        SortedIn1_0,
+        IdOnceInList,
+        GapsRefusedIn1_0,
+        FirstFrameAboveZeroRefusedIn1_0,
+        AppendTo1_0,
+        TwentyAfterTwentyOne,
+        TwentyAfterThirtyOne,
+        TwentyAfterTwentyTwo,
+        TwentyAfterTwentyNine,
+        TwentyNotAtLimitZero,
+        TwentyUpgrades,
+    ];
+    run_notices("a run of appends to 1.0, word for word", &faults);
+}
+
 /// What an append lets into the record is noticed there, whatever it answers.
 #[test]
 fn a_run_of_appends_finds_a_nan_in_the_record() {

@@ -1,6 +1,7 @@
 -- `gsd_ids::list_ids` meets its contract. Invariant: the first i rows are done, and the columns that say where rows lie are kept;
 -- the new names among these rows take fewer bytes than the sheet has before row i, but for their zeros.
 use Prim.Native.Nat.{_+_, _-_, _≤_}
+use mathlib.Core.Bool.{false}
 use native.Mathlib.Omega.{arith}
 use lib.ListN.{length, length-set}
 use Rattle.gsd_stores.specs.Sheet.{rowsOf, nameAt}
@@ -17,7 +18,7 @@ use Rattle.gsd_ids.proofs.list_ids.Tie as tie
 
 abbrev Inv-loop : tie.InvT-loop
 Inv-loop image starts names sheet plan₀ count fresh₀ size₀ i₀ plan fresh size i =
-    Listing (namesIn image starts names) (rowsOf sheet) plan fresh size i × Kept 129 plan₀ plan × (size ≤ nameAt sheet i + i)
+    Listing (namesIn false image starts names) (rowsOf sheet) plan fresh size i × Kept 129 plan₀ plan × (size ≤ nameAt sheet i + i)
 
 abbrev μ-loop : tie.MeasureT-loop
 μ-loop image starts names sheet plan₀ count fresh₀ size₀ i₀ plan fresh size i = count - i

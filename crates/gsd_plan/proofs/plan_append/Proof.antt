@@ -1,7 +1,7 @@
 -- `gsd_plan::plan_append` meets its contract.
 use mathlib.Core.Path.{refl, sym, _∙_}
 use borrow.Author.Needs.{needs}
-use Rattle.gsd_plan.proofs.Tests.{not-opened, bad-image, bad-sheet, good-sheet, plans-same}
+use Rattle.gsd_plan.proofs.Tests.{not-opened, image-recent, bad-image, bad-sheet, good-sheet, plans-same}
 use Rattle.gsd_plan.proofs.plan_append.Statement.{statement}
 use Rattle.gsd_plan.proofs.plan_append.Tie as tie
 
@@ -43,10 +43,12 @@ plan-names-requires : tie.Need-plan-names-requires
 plan-names-requires c κs =
     let if3 = c .before .before in
     let sheet-rows = if3 .before .before .before in
-    let if1 = sheet-rows .before .before .before .before in
+    let if2 = sheet-rows .before .before in
+    let if1 = if2 .before .before in
     let survey-of = if1 .before .before in
+    let recent = image-recent _ _ (sym (if2 .before .image-number .ensures) ∙ if2 .if2 .left) in
     let rows = sheet-rows .sheet-rows .ensures in
-    (survey-of .survey-of .ensures, (if1 .if1 .left, (sym (rows .0) ∙ if3 .if3 .left, (search needs, rows .1 (if3 .if3 .left)))))
+    (survey-of .survey-of .ensures, (if1 .if1 .left, (recent, (sym (rows .0) ∙ if3 .if3 .left, (search needs, rows .1 (if3 .if3 .left))))))
 
 same-length-2 : tie.Need-same-length-2
 same-length-2 c = search needs

@@ -3,6 +3,12 @@ use borrow.Author.Needs.{needs}
 use Rattle.gsd_names.proofs.list.name_bytes.Statement.{statement}
 use Rattle.gsd_names.proofs.list.name_bytes.Tie as tie
 
+name-start-requires : tie.Need-name-start-requires
+name-start-requires c κs = search needs
+
+add-place : tie.Need-add-place
+add-place c = search needs
+
 mul-place : tie.Need-mul-place
 mul-place c = search needs
 
@@ -11,18 +17,6 @@ element-copy-out-place c = search needs
 
 place-requires : tie.Need-place-requires
 place-requires c κs = search needs
-
-add-place : tie.Need-add-place
-add-place c = search needs
-
-mul-place-2 : tie.Need-mul-place-2
-mul-place-2 c = search needs
-
-element-copy-out-place-2 : tie.Need-element-copy-out-place-2
-element-copy-out-place-2 c = search needs
-
-place-requires-2 : tie.Need-place-requires-2
-place-requires-2 c κs = search needs
 
 sub-end : tie.Need-sub-end
 sub-end c = search needs
@@ -37,19 +31,17 @@ part-result-end : tie.Need-part-result-end
 part-result-end c = search needs
 
 returns : tie.Need-returns
-returns c = rw (c .before .place2 .ensures, c .before .before .before .place .ensures)
+returns c = rw (c .before .place .ensures .0, c .before .before .before .name-start .ensures)
 
 pub name-bytes-spec : {M : Type 1} → statement M
 name-bytes-spec =
     tie.close
     (tie.spec
+    name-start-requires
+    add-place
     mul-place
     element-copy-out-place
     place-requires
-    add-place
-    mul-place-2
-    element-copy-out-place-2
-    place-requires-2
     sub-end
     sub-result
     part-result-start

@@ -1,6 +1,6 @@
 -- `gsd_names::list::past_name` meets its contract: the first zero closes the name, or there is none, or the list ends here.
 use borrow.Author.Needs.{needs}
-use Rattle.gsd_names.proofs.NameLists.{past-end, past-open, past-name}
+use Rattle.gsd_names.proofs.NamePasses.{past-end, past-open, past-name}
 use Rattle.gsd_names.proofs.list.past_name.Statement.{statement}
 use Rattle.gsd_names.proofs.list.past_name.Tie as tie
 

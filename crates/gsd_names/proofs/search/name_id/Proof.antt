@@ -9,10 +9,10 @@ use Rattle.gsd_names.proofs.search.name_id.Statement.{statement}
 use Rattle.gsd_names.proofs.search.name_id.Tie as tie
 
 abbrev Inv-loop : tie.InvT-loop
-Inv-loop image starts count name i₀ i = (i ≤ count) × Passed image starts count name 0 i
+Inv-loop image starts v10 count name i₀ i = (i ≤ count) × Passed v10 image starts count name 0 i
 
 abbrev μ-loop : tie.MeasureT-loop
-μ-loop image starts count name i₀ i = count - i
+μ-loop image starts v10 count name i₀ i = count - i
 
 loop-holds : tie.Need-loop-holds Inv-loop μ-loop
 loop-holds c = (search needs, refl)
@@ -26,9 +26,9 @@ same-name-requires c κs = search needs
 returns : tie.Need-returns Inv-loop μ-loop
 returns c =
     let turn = c .before .before .before in
-    let here = passed-here _ _ _ _ _ _ _ (turn .loop-test .taken) (turn .before .loop .inv .1) (c .before .before .name-bytes .ensures)
+    let here = passed-here _ _ _ _ _ _ _ _ (turn .loop-test .taken) (turn .before .loop .inv .1) (c .before .before .name-bytes .ensures)
     (sym (c .before .same-name .ensures) ∙ c .if1 .taken) in
-    sym (ap (indexOf _) (sym (names-all _ _ _)) ∙ sym (add-zero _) ∙ here)
+    sym (ap (indexOf _) (sym (names-all _ _ _ _)) ∙ sym (add-zero _) ∙ here)
 
 add-i : tie.Need-add-i Inv-loop μ-loop
 add-i c = search needs
@@ -39,14 +39,14 @@ loop-less c = search needs
 loop-again : tie.Need-loop-again Inv-loop μ-loop
 loop-again c =
     let turn = c .before .before .before in
-    let more = passed-more _ _ _ _ _ _ _ (turn .loop-test .taken) (turn .before .loop .inv .1) (c .before .before .name-bytes .ensures)
+    let more = passed-more _ _ _ _ _ _ _ _ (turn .loop-test .taken) (turn .before .loop .inv .1) (c .before .before .name-bytes .ensures)
     (sym (c .before .same-name .ensures) ∙ c .if1 .left) in
     (search needs, more)
 
 returns-2 : tie.Need-returns-2 Inv-loop μ-loop
 returns-2 c =
-    let all = passed-all _ _ _ _ _ _ (c .loop-test .left) (c .before .loop .inv .1) in
-    sym (ap (indexOf _) (sym (names-all _ _ _)) ∙ sym (add-zero _) ∙ all)
+    let all = passed-all _ _ _ _ _ _ _ (c .loop-test .left) (c .before .loop .inv .1) in
+    sym (ap (indexOf _) (sym (names-all _ _ _ _)) ∙ sym (add-zero _) ∙ all)
 
 pub name-id-spec : {M : Type 1} → statement M
 name-id-spec =

@@ -1,4 +1,5 @@
--- `gsd_names::twins::has_twins` meets its contract. Invariants: no name before the i-th comes again; the i-th is none of those behind it up to the j-th.
+-- `gsd_names::twins::has_twins` meets its contract. Invariants: no name before the i-th comes again; the i-th is none of those
+-- behind it up to the j-th.
 use Prim.Native.Nat.{_+_, _-_, _≤_}
 use mathlib.Core.Path.{_≡_, refl, sym, _∙_, ap}
 use mathlib.Core.Bool.{false}
@@ -13,17 +14,18 @@ use Rattle.gsd_names.proofs.twins.has_twins.Statement.{statement}
 use Rattle.gsd_names.proofs.twins.has_twins.Tie as tie
 
 abbrev Inv-loop : tie.InvT-loop
-Inv-loop image starts prints count found₀ i j₀ found j = (j ≤ count) × ((found ≡ false) × Passed image starts count (bytesOf image (partAt starts i)) (i + 1) j)
+Inv-loop image starts v10 prints count found₀ i j₀ found j =
+    (j ≤ count) × ((found ≡ false) × Passed v10 image starts count (bytesOf image (partAt v10 starts i)) (i + 1) j)
 
 abbrev μ-loop : tie.MeasureT-loop
-μ-loop image starts prints count found₀ i j₀ found j = count - j
+μ-loop image starts v10 prints count found₀ i j₀ found j = count - j
 
 abbrev Inv-pairs : tie.InvT-pairs
-Inv-pairs image starts prints count found₀ i₀ found i =
-    (i ≤ count) × ((found ≡ false) × (twins (names image starts count 0) ≡ twins (names image starts count i)))
+Inv-pairs image starts v10 prints count found₀ i₀ found i =
+    (i ≤ count) × ((found ≡ false) × (twins (names v10 image starts count 0) ≡ twins (names v10 image starts count i)))
 
 abbrev μ-pairs : tie.MeasureT-pairs
-μ-pairs image starts prints count found₀ i₀ found i = count - i
+μ-pairs image starts v10 prints count found₀ i₀ found i = count - i
 
 pairs-holds : tie.Need-pairs-holds Inv-loop μ-loop Inv-pairs μ-pairs
 pairs-holds c = (search needs, (search needs, refl))
@@ -40,7 +42,7 @@ loop-holds c = (search needs, (search needs, refl))
 are-twins-requires : tie.Need-are-twins-requires Inv-loop μ-loop Inv-pairs μ-pairs
 are-twins-requires c κs =
     let pre = c .before .before .before .before .before .before .before .before .pre in
-    paired _ _ _ _ _ _ (pre .0) (pre .1) (c .before .before .before .before .pairs-test .taken) (c .loop-test .taken)
+    paired _ _ _ _ _ _ _ (pre .0) (pre .1) (c .before .before .before .before .pairs-test .taken) (c .loop-test .taken)
 
 add-j-2 : tie.Need-add-j-2 Inv-loop μ-loop Inv-pairs μ-pairs
 add-j-2 c = search needs
@@ -51,7 +53,8 @@ loop-less c = search needs
 loop-again : tie.Need-loop-again Inv-loop μ-loop Inv-pairs μ-pairs
 loop-again c =
     let turn = c .before .before in
-    let passed = passed-more _ _ _ _ _ _ _ (turn .loop-test .taken) (turn .before .loop .inv .1 .1) refl (sym (c .before .are-twins .ensures) ∙ c .if2 .left) in
+    let apart = sym (c .before .are-twins .ensures) ∙ c .if2 .left in
+    let passed = passed-more _ _ _ _ _ _ _ _ (turn .loop-test .taken) (turn .before .loop .inv .1 .1) refl apart in
     (search needs, (search needs, passed))
 
 add-i : tie.Need-add-i Inv-loop μ-loop Inv-pairs μ-pairs
@@ -68,24 +71,27 @@ pairs-again c =
       search needs,
       ⊎-elim
           (λ w.
-          let all = passed-all _ _ _ _ _ _ (w .2 .left) (w .1 .inv .1 .1) in
-          (w .3 ∙ w .1 .inv .1 .0, before .1 .1 ∙ twins-behind _ _ _ _ _ _ here refl all (w .2 .left)))
+          let all = passed-all _ _ _ _ _ _ _ (w .2 .left) (w .1 .inv .1 .1) in
+          (w .3 ∙ w .1 .inv .1 .0, before .1 .1 ∙ twins-behind _ _ _ _ _ _ _ here refl all (w .2 .left)))
           (λ w.
           let silent = sym (c .before .echoed .ensures) ∙ w .0 .left in
-          (w .1 ∙ before .1 .0, before .1 .1 ∙ twins-silent _ _ _ _ _ (turn .before .before .before .before .pre .1) here silent))
+          (w .1 ∙ before .1 .0, before .1 .1 ∙ twins-silent _ _ _ _ _ _ (turn .before .before .before .before .pre .1) here silent))
           (c .if1 .came),
     )
 
 returns : tie.Need-returns Inv-loop μ-loop Inv-pairs μ-pairs
-returns c = c .before .pairs .inv .1 .0 ∙ sym (ap twins (sym (names-all _ _ _)) ∙ c .before .pairs .inv .1 .1 ∙ twins-none _ _ _ _ (c .pairs-test .left))
+returns c =
+    let inv = c .before .pairs .inv .1 in
+    inv .0 ∙ sym (ap twins (sym (names-all _ _ _ _)) ∙ inv .1 ∙ twins-none _ _ _ _ _ (c .pairs-test .left))
 
 returns-2 : tie.Need-returns-2 Inv-loop μ-loop Inv-pairs μ-pairs
 returns-2 c =
     let turn = c .before .before in
     let here = turn .before .before .before .before in
-    let again = passed-here _ _ _ _ _ _ _ (turn .loop-test .taken) (turn .before .loop .inv .1 .1) refl (sym (c .before .are-twins .ensures) ∙ c .if2 .taken) in
-    sym (ap twins (sym (names-all _ _ _)) ∙ here .before .pairs .inv .1 .1
-    ∙ twins-here _ _ _ _ _ _ (here .pairs-test .taken) refl again (turn .loop-test .taken))
+    let same = sym (c .before .are-twins .ensures) ∙ c .if2 .taken in
+    let again = passed-here _ _ _ _ _ _ _ _ (turn .loop-test .taken) (turn .before .loop .inv .1 .1) refl same in
+    sym (ap twins (sym (names-all _ _ _ _)) ∙ here .before .pairs .inv .1 .1
+    ∙ twins-here _ _ _ _ _ _ _ (here .pairs-test .taken) refl again (turn .loop-test .taken))
 
 pub has-twins-spec : {M : Type 1} → statement M
 has-twins-spec =

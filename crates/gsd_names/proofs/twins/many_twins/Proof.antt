@@ -14,7 +14,8 @@ slice-aggregate-has-twins : tie.Need-slice-aggregate-has-twins
 slice-aggregate-has-twins c = search needs
 
 has-twins-requires : tie.Need-has-twins-requires
-has-twins-requires c κs = (c .before .before .before .before .before .pre .0, printed-tell _ _ _ _ _ (search needs) (c .before .before .name-prints .ensures))
+has-twins-requires c κs =
+    (c .before .before .before .before .before .pre .0, printed-tell _ _ _ _ _ _ (search needs) (c .before .before .name-prints .ensures))
 
 returns : tie.Need-returns
 returns c = search needs
