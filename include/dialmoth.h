@@ -196,9 +196,10 @@ uint64_t dialmoth_probes(const uint8_t *image, size_t image_length,
                          size_t name_length, uint64_t out[1]);
 
 /* Makes a fresh image of version 2.1 with no frame. 0 slots stand for 512 (once
- * for 64), 0 segments for 16; it needs 256 + 32 * slots + 64 * segments bytes,
- * 17,664 with both 0, and those behind stay as they are. The texts have at most 63
- * bytes and need no closing zero.
+ * for 64), 0 segments for 16. The index lies at 256, the names at 256 + 32 * slots
+ * rounded up to a multiple of 64, and 64 * segments bytes more are needed: 17,664
+ * with both 0. Bytes between the two and behind them stay as they are. The texts
+ * have at most 63 bytes and need no closing zero.
  * Every append clears all slots that are free, 32 bytes each. With 512 that is up
  * to 16 KiB an append until the index first moves; after a move it is up to half
  * of the new block, and up to 2 KiB more if the append that moved it was stopped.
@@ -216,6 +217,13 @@ uint64_t dialmoth_create(uint8_t *image, size_t image_length,
  * The frame is there once the last store is made, and not before: after a stop
  * every older frame reads as it did, and the same append may be made again. (A
  * block that was moved before the stop stays moved, so it may take more room.)
+ * Every chunk of the new frame, an empty one too, and every block that the append
+ * moves starts at a multiple of 64, counted from the image's start: lend an image
+ * that itself lies at such an address where the memory wants them there. Bytes
+ * between are not stored, so there are no more stores, but a chunk of 1 byte takes
+ * 64 of the image. Chunks and blocks that lie elsewhere, as the real library puts
+ * them and this one once did, stay there; only blocks off multiples of 8 are
+ * refused (DIALMOTH_UNALIGNED_BLOCK).
  * The image keeps its version: one of 2.0 refuses a row of DIALMOTH_CHARACTER
  * with DIALMOTH_BAD_ROW, one of 2.1 takes it, and one of 1.0 takes no append at all:
  * DIALMOTH_OLD_IMAGE, whatever the sheet and the limit.

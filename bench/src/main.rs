@@ -355,8 +355,10 @@ fn grouped(number: u64) -> String {
 fn stores() {
     let (library, _) = library();
     println!("Stores of whole appends, eight bytes each; frames in turn begin with create, 64 slots and 16 segments.\n");
-    println!("| append | stores | bytes stored | bytes of data |");
-    println!("|---|---|---|---|");
+    println!(
+        "| append | stores | bytes stored | bytes of data | bytes of the longest image in use |"
+    );
+    println!("|---|---|---|---|---|");
     let rows = [
         ("a frame of 3 chunks behind 40,000 entries", Next::fitting().stored(library)),
         ("a frame of 3 chunks, 65,536 slots", Next::doubled().stored(library)),
@@ -366,9 +368,10 @@ fn stores() {
         ("1,440 frames of 4 chunks, 60 to an image", Day::of_four().stored(library, 60, 64)),
         ("the same, 0 slots asked for: 512", Day::of_four().stored(library, 60, 0)),
     ];
-    for (what, Stored { stores, data }) in rows {
+    for (what, Stored { stores, data, used }) in rows {
         let [stores, bytes, data] = [stores, 8 * stores, data].map(grouped);
-        println!("| {what} | {stores} | {bytes} | {data} |");
+        let used = if used == 0 { "-".into() } else { grouped(used as u64) };
+        println!("| {what} | {stores} | {bytes} | {data} | {used} |");
     }
 }
 

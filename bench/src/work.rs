@@ -2,6 +2,7 @@
 
 use crate::fingerprint;
 use differential::ask::Ask;
+use differential::generate::shortest;
 use differential::images::{
     blank, lawful_rows, put32, put_names, put_slots, segments_for, sheet, version, Row, Slot, V1_0,
     V2_1,
@@ -24,8 +25,10 @@ const SLOTS: u64 = 64;
 fn index(version: u32, names: &[String], there: impl Fn(u64, u16) -> bool, free: usize) -> Vec<u8> {
     let (slots, segments) = (ENTRIES + free, segments_for(version, names).max(8));
     let data = 256 + 32 * slots + 64 * segments;
+    // What is appended starts on multiples of 64.
+    let length = (data + 8 * ENTRIES).next_multiple_of(64) + 64 * free;
     let mut image =
-        blank(data + 8 * slots, 256, slots as u64, (data - 64 * segments) as u64, segments as u64);
+        blank(length, 256, slots as u64, (data - 64 * segments) as u64, segments as u64);
     put32(&mut image, 44, version);
     let count = names.len() as u16;
     let id = |n: u16| if version == V1_0 { count - 1 - n } else { n };
@@ -128,7 +131,7 @@ pub fn one_fingerprint() -> Vec<u8> {
 
 /// 8 frames of 3 chunks.
 pub fn small() -> Vec<u8> {
-    let mut image = vec![0; 4096];
+    let mut image = vec![0; 8192];
     create(&Reference, &mut image, SLOTS);
     for _ in 0..8 {
         append(&Reference, &mut image, &frame(0));
@@ -178,6 +181,8 @@ pub struct Stored {
     pub stores: u64,
     /// Bytes of the rows' data, without names and padding.
     pub data: u64,
+    /// How far the longest image is in use, where the appends were made.
+    pub used: usize,
 }
 
 impl Stored {
@@ -226,6 +231,8 @@ impl Day {
                 stored.add(library, &mut self.image, sheet);
                 append(library, &mut self.image, sheet);
             }
+            let opens = |part: &[u8]| library.open(part, &mut [0; 3]) == 0;
+            stored.used = stored.used.max(shortest(&self.image, opens));
         }
         stored
     }

@@ -233,9 +233,12 @@ pub fn probes(image: &[u8], frame: u64, name: &[u8]) -> Probes {
     Probes { count, refusal: (number != 0).then_some(Refusal(number)) }
 }
 
-/// Makes a fresh image of version 2.1; 0 slots stand for 512 (once for 64), 0 segments for 16. Every
-/// append clears those that are free, with 512 slots up to 16 KiB until the index first moves, and
-/// moves them by itself where it needs more: on flash ask for few.
+/// Makes a fresh image of version 2.1; 0 slots stand for 512 (once for 64), 0 segments for 16. It
+/// needs 256 + 32 * slots bytes, rounded up to a multiple of 64, and 64 for each segment; bytes
+/// between its two blocks and behind them stay as they are.
+///
+/// Every append clears the slots and segments that are free, with 512 slots up to 16 KiB until the
+/// index first moves, and moves them by itself where it needs more: on flash ask for few.
 pub fn create(
     image: &mut [u8],
     application: &[u8],
@@ -263,6 +266,9 @@ pub fn create(
 /// Makes the first `limit` stores of the append of a sheet's chunks as one new frame; its number is
 /// the number of frames so far. The image keeps its version, and one of 2.0 refuses a character
 /// ([`Refusal::BAD_ROW`]).
+///
+/// Its chunks, empty ones too, and the blocks that it moves start at multiples of 64, counted from
+/// the image's start; bytes between are not stored. What lies elsewhere in the image stays there.
 ///
 /// A NaN among the elements of a row of floats or doubles is refused ([`Refusal::NAN_IN_SHEET`]),
 /// whatever the limit. Infinities pass, and rows of other types are not looked at. An image that

@@ -3,7 +3,7 @@ ghost use mathlib.Core.Path.{_≡_};
 ghost use Prim.Native.Nat.{_+_, _-_, _*_, _≤_, _<_};
 ghost use lib.ListN.{length, take};
 ghost use Rattle.gsd_format.specs.Bytes.{le, leBytes, part, same, zeros, stored};
-ghost use Rattle.gsd_format.specs.Header.{magic, v10};
+ghost use Rattle.gsd_format.specs.Header.{magic, v10, aligned};
 ghost use Rattle.gsd_format.specs.Types.{sizeOf, lastType, known};
 
 mod floats;
@@ -163,6 +163,17 @@ pub const VERSION_1_0: u64 = 0x00010000;
 pub const VERSION_2_0: u64 = 0x00020000;
 
 pub const VERSION_2_1: u64 = 0x00020001;
+
+// Chunks and blocks that create or an append lays out start at multiples of this.
+const ALIGNMENT: u64 = 64;
+
+// The first place from n on at which one may start.
+pub fn rounded(n: u64) -> u64
+    requires { ⌜ n < 18446744073709551552 ⌝ }
+    ensures { λ r. ⌜ r ≡ aligned n ⌝ }
+{
+    (n + (ALIGNMENT - 1)) / ALIGNMENT * ALIGNMENT
+}
 
 // Is it 1.0, where a name has a segment of its own and entries stand in the order of writing?
 pub fn is_10(version: u64) -> bool

@@ -1,10 +1,9 @@
 // Creates a fresh image at the front of a lent slice: header, an empty index block, an empty name block.
 use gsd_bytes::GREATEST_LENGTH;
-use gsd_bytes::HEADER_SIZE;
 use gsd_bytes::SEGMENT_SIZE;
-use gsd_bytes::SLOT_SIZE;
 use gsd_bytes::has_zero;
 use gsd_fresh::lay_out;
+use gsd_fresh::namelist_place;
 ghost use mathlib.Core.Path.{_≡_};
 ghost use Rattle.gsd_format.specs.Create.{orDefault, badText, createTest, createNumber, created};
 
@@ -54,13 +53,13 @@ fn create_test(len: usize, application: &[u8], schema: &[u8], slots: u64, segmen
     if bad_text(schema) {
         return 51;
     }
-    if (len as u64) < HEADER_SIZE + SLOT_SIZE * slots + SEGMENT_SIZE * segments {
+    if (len as u64) < namelist_place(slots) + SEGMENT_SIZE * segments {
         return 52;
     }
     0
 }
 
-// A refusal changes no byte. Bytes behind the two blocks stay.
+// A refusal changes no byte. Bytes between the two blocks and behind them stay.
 pub fn create(
     image: &mut [u8],
     application: &[u8],

@@ -1,16 +1,17 @@
 -- Laws of create: what a test that refuses nothing tells, and the slice afterwards by the number.
 use Prim.Native.Nat.{ℕ, zero, suc, _≤_, _<_}
-use mathlib.Core.Path.{_≡_, refl}
+use mathlib.Core.Path.{_≡_, refl, sym}
 use mathlib.Core.Bool.{true, false, _||_}
 use mathlib.Core.List.{List}
 use native.Mathlib.Omega.{arith}
 use lib.Dec.{ltb}
-use lib.ListN.{length}
+use lib.ListN.{length, length-append, length-replicate}
 use borrow.Author.Tests.{ltb-false, lt-ltb, le-ltb}
 use Rattle.gsd_format.specs.Refusals.{_⇒_, _▹_}
 use Rattle.gsd_format.specs.Bytes.{zeroIn}
 use Rattle.gsd_format.specs.Header.{greatestLength}
-use Rattle.gsd_format.specs.Create.{defaultSlots, defaultSegments, orDefault, freshLength, badText, createTest, fresh, createNumber, created}
+use Rattle.gsd_format.specs.Create.{defaultSlots, defaultSegments, orDefault, freshNamelistEnd, freshLength, badText, filled}
+use Rattle.gsd_format.specs.Create.{createTest, fresh, createNumber, created}
 use Rattle.gsd_format.proofs.Refusals.{both, unmet, neither, not-less}
 
 pub default-taken : (n usual : ℕ) → n ≡ 0 → orDefault n usual ≡ usual
@@ -22,6 +23,14 @@ pub default-spared : (n usual : ℕ) → (n ≡ 0 → ⊥) → orDefault n usual
 unfolding orDefault
 default-spared zero usual e = absurd (e refl)
 default-spared (suc n) usual e = refl
+
+-- a text of the header has 64 bytes
+pub filled-length : (t : List ℕ) → length t ≤ 63 → length (filled t) ≡ 64
+filled-length t h = simp (length-append, length-replicate) (omega arith)
+
+-- a segment's size is that of the alignment: nothing lies between the name block's end and the fresh image's
+fresh-length : (slots segments : ℕ) → freshLength slots segments ≡ freshNamelistEnd slots segments
+fresh-length slots segments = omega arith
 
 -- create's number by the test that decides it
 module _ (len : ℕ) (application schema : List ℕ) (slots segments : ℕ) where
@@ -38,9 +47,9 @@ module _ (len : ℕ) (application schema : List ℕ) (slots segments : ℕ) wher
   test-texts h m k e = simp (le-ltb _ _ h, le-ltb _ _ m, le-ltb _ _ k, e)
 
   pub test-room : len ≤ greatestLength → slots ≤ 65536 → segments ≤ 65536 → badText application ≡ false → badText schema ≡ false
-      → createTest len application schema slots segments ≡ (ltb len (freshLength slots segments) ⇒ 52)
+      → createTest len application schema slots segments ≡ (ltb len (freshNamelistEnd slots segments) ⇒ 52)
   unfolding createTest _⇒_ _▹_
-  test-room h m k a s = simp (le-ltb _ _ h, le-ltb _ _ m, le-ltb _ _ k, a, s)
+  test-room h m k a s = simp (le-ltb _ _ h, le-ltb _ _ m, le-ltb _ _ k, a, s, fresh-length slots segments)
 
 -- a slice of len bytes takes a fresh image with these texts and so many slots and segments
 pub record Takes (len : ℕ) (application schema : List ℕ) (slots segments : ℕ) : Type 0 where
@@ -49,7 +58,7 @@ pub record Takes (len : ℕ) (application schema : List ℕ) (slots segments : �
   pub few-segments : segments ≤ 65536
   pub short-application : length application ≤ 63
   pub short-schema : length schema ≤ 63
-  pub room : freshLength slots segments ≤ len
+  pub room : freshNamelistEnd slots segments ≤ len
 
 text-length : (t : List ℕ) → badText t ≡ false → length t ≤ 63
 text-length t h = ltb-false 63 (length t) (neither (ltb 63 (length t)) (zeroIn t 0 (length t)) h .0)
@@ -67,7 +76,7 @@ takes len a s slots segments h =
       few-segments = ltb-false 65536 segments (blocks .1);
       short-application = text-length a (good .0);
       short-schema = text-length s (good .1);
-      room = not-less len (freshLength slots segments) 51 (both _ _ texts .1);
+      room = rw (sym (fresh-length slots segments)) (not-less len (freshLength slots segments) 51 (both _ _ texts .1));
     }
 
 -- the slice afterwards: as it was, or with a fresh image at its front

@@ -14,16 +14,14 @@ use Rattle.gsd_format.specs.Header.{magic, version21, headerSize, versio
 use Rattle.gsd_format.specs.Names.{flat, namesOf}
 use Rattle.gsd_format.specs.Entries.{entriesOf, framesFrom}
 use Rattle.gsd_format.specs.Opening.{verdict, countsOf}
-use Rattle.gsd_format.specs.Create.{defaultSlots, defaultSegments, orDefault, filled, freshHeader, freshLength, fresh, createNumber, created, Fresh}
-use Rattle.gsd_format.proofs.Bytes.{le-back, part-at, zero-in, zero-le}
+use Rattle.gsd_format.specs.Create.{defaultSlots, defaultSegments, orDefault, filled, freshHeader, fresh, createNumber, created, Fresh}
+use Rattle.gsd_format.specs.Create.{freshIndexEnd, freshNamelist, freshNamelistEnd, freshGap}
+use Rattle.gsd_format.proofs.Bytes.{le-back, part-length, part-at, zero-in, zero-le}
 use Rattle.gsd_format.proofs.Texts.{place}
 use Rattle.gsd_format.proofs.Names.{is-namesOf, zero-closed, open-recent, pass-names}
 use Rattle.gsd_format.proofs.Entries.{is-none, is-entries}
 use Rattle.gsd_format.proofs.Verdict.{verdict-zero, opening-open}
-use Rattle.gsd_format.proofs.Create.{Takes, takes, created-made}
-
-filled-length : (t : List ℕ) → length t ≤ 63 → length (filled t) ≡ 64
-filled-length t h = length-append t (zeros (64 - length t)) ∙ omega (arith, length-replicate {A = ℕ} (64 - length t) 0)
+use Rattle.gsd_format.proofs.Create.{filled-length, Takes, takes, created-made}
 
 -- a text of the header is closed by a zero
 filled-closed : (x : List ℕ) (at : ℕ) (t : List ℕ) → length t ≤ 63 → part x at 64 ≡ filled t → zeroIn x at 64 ≡ true
@@ -36,46 +34,63 @@ module _ (slice application schema : List ℕ) (schemaVersion slots segments : �
   abbrev x : List ℕ
   x = fresh slice application schema schemaVersion slots segments
 
-  abbrev size : ℕ
-  size = 32 * slots + 64 * segments
+  -- what lies between the blocks and behind them, and all from the index block's end on
+  abbrev kept : List ℕ
+  kept = part slice (freshIndexEnd slots) (freshGap slots)
 
   abbrev rest : List ℕ
-  rest = drop (freshLength slots segments) slice
+  rest = drop (freshNamelistEnd slots segments) slice
+
+  abbrev tail : List ℕ
+  tail = kept ++ (zeros (64 * segments) ++ rest)
+
+  kept-length : length kept ≡ freshGap slots
+  kept-length = part-length slice (freshIndexEnd slots) (freshGap slots) (omega (arith, t .room))
 
   -- What stands from each place on
 
-  from-48 : drop 48 x ≡ filled application ++ (filled schema ++ (zeros 80 ++ (zeros size ++ rest)))
+  from-48 : drop 48 x ≡ filled application ++ (filled schema ++ (zeros 80 ++ (zeros (32 * slots) ++ tail)))
   unfolding fresh freshHeader leBytes
   from-48 = simp append-assoc
 
-  from-112 : drop 112 x ≡ filled schema ++ (zeros 80 ++ (zeros size ++ rest))
+  from-112 : drop 112 x ≡ filled schema ++ (zeros 80 ++ (zeros (32 * slots) ++ tail))
   from-112 = sym (drop-drop 64 48 x) ∙ ap (drop 64) from-48 ∙ drop-at (filled application) _ 64 (filled-length application (t .short-application))
 
-  from-176 : drop 176 x ≡ zeros 80 ++ (zeros size ++ rest)
+  from-176 : drop 176 x ≡ zeros 80 ++ (zeros (32 * slots) ++ tail)
   from-176 = sym (drop-drop 64 112 x) ∙ ap (drop 64) from-112 ∙ drop-at (filled schema) _ 64 (filled-length schema (t .short-schema))
 
-  from-256 : drop 256 x ≡ zeros size ++ rest
-  from-256 = sym (drop-drop 80 176 x) ∙ ap (drop 80) from-176 ∙ drop-at (zeros 80) (zeros size ++ rest) 80 refl
+  from-256 : drop 256 x ≡ zeros (32 * slots) ++ tail
+  from-256 = sym (drop-drop 80 176 x) ∙ ap (drop 80) from-176 ∙ drop-at (zeros 80) (zeros (32 * slots) ++ tail) 80 refl
 
-  from-blocks : drop (freshLength slots segments) x ≡ rest
+  from-index : drop (freshIndexEnd slots) x ≡ tail
+  from-index =
+      sym (drop-drop (32 * slots) 256 x) ∙ ap (drop (32 * slots)) from-256 ∙ drop-at (zeros (32 * slots)) tail (32 * slots) (length-replicate (32 * slots) 0)
+
+  from-names : drop (freshNamelist slots) x ≡ zeros (64 * segments) ++ rest
+  from-names =
+      ap (λ n. drop n x) (let e : freshNamelist slots ≡ freshIndexEnd slots + freshGap slots = omega arith in e)
+      ∙ sym (drop-drop (freshGap slots) (freshIndexEnd slots) x) ∙ ap (drop (freshGap slots)) from-index ∙ drop-at kept _ (freshGap slots) kept-length
+
+  from-blocks : drop (freshNamelistEnd slots segments) x ≡ rest
   from-blocks =
-      ap (λ n. drop n x) (let e : freshLength slots segments ≡ 256 + size = omega arith in e)
-      ∙ sym (drop-drop size 256 x) ∙ ap (drop size) from-256 ∙ drop-at (zeros size) rest size (length-replicate size 0)
+      sym (drop-drop (64 * segments) (freshNamelist slots) x) ∙ ap (drop (64 * segments)) from-names
+      ∙ drop-at (zeros (64 * segments)) rest (64 * segments) (length-replicate (64 * segments) 0)
 
   long : length x ≡ length slice
   long =
-      let sizes : length (filled application ++ (filled schema ++ (zeros 80 ++ (zeros size ++ rest)))) ≡ 64 + (64 + (80 + (size + length rest)))
+      let sizes : length (filled application ++ (filled schema ++ (zeros 80 ++ (zeros (32 * slots) ++ tail))))
+      ≡ 64 + (64 + (80 + (32 * slots + (length kept + (64 * segments + length rest)))))
       = simp (length-append, length-replicate) (omega (arith, t .short-application, t .short-schema)) in
-      omega (arith, t .room, length-drop 48 x, ap length from-48, sizes, length-drop (freshLength slots segments) slice)
+      omega (arith, t .room, length-drop 48 x, ap length from-48, sizes, kept-length, length-drop (freshNamelistEnd slots segments) slice)
 
   abbrev asked : Layout
-  asked = record { len = length slice; version = version21; index = headerSize; slots = slots; namelist = headerSize + 32 * slots; segments = segments }
+  asked = record { len = length slice; version = version21; index = headerSize; slots = slots; namelist = freshNamelist slots; segments = segments }
 
   laid : layoutOf x ≡ asked
   unfolding layoutOf fresh freshHeader le leBytes
   laid =
       let count : le 8 x 16 ≡ slots = le-back 8 slots (omega (arith, t .few-slots)) in
-      let namelist : le 8 x 24 ≡ headerSize + 32 * slots = le-back 8 (headerSize + 32 * slots) (omega (arith, t .few-slots)) in
+      let namelist : le 8 x 24 ≡ freshNamelist slots = le-back 8 (freshNamelist slots) (omega (arith, t .few-slots)) in
       let segments : le 8 x 32 ≡ segments = le-back 8 segments (omega (arith, t .few-segments)) in
       λ i. record { len = long i; version = version21; index = headerSize; slots = count i; namelist = namelist i; segments = segments i }
 
@@ -95,19 +110,19 @@ module _ (slice application schema : List ℕ) (schemaVersion slots segments : �
 
   -- Both lists are empty
 
-  clear : (k : ℕ) → k < size → getD x (headerSize + k) 0 ≡ 0
-  clear k l =
-      sym (getD-drop headerSize x k 0) ∙ ap (λ s. getD s k 0) from-256
-      ∙ List·getD-append (zeros size) rest 0 k (omega (arith, length-replicate {A = ℕ} size 0)) ∙ getD-replicate size k 0 0 l
+  clear : (at n k : ℕ) (behind : List ℕ) → drop at x ≡ zeros n ++ behind → k < n → getD x (at + k) 0 ≡ 0
+  clear at n k behind e l =
+      sym (getD-drop at x k 0) ∙ ap (λ s. getD s k 0) e
+      ∙ List·getD-append (zeros n) behind 0 k (omega (arith, length-replicate {A = ℕ} n 0)) ∙ getD-replicate n k 0 0 l
 
   no-entries : entriesOf x ≡ []
   unfolding entriesOf
   no-entries =
       rw laid (is-entries slots x headerSize [] (is-none x headerSize slots (λ l. zero-le 8 x (headerSize + 16) (λ k m.
-      place x (headerSize + 16 + k) (headerSize + (16 + k)) (omega arith) ∙ clear (16 + k) (omega arith)))))
+      place x (headerSize + 16 + k) (headerSize + (16 + k)) (omega arith) ∙ clear headerSize (32 * slots) (16 + k) tail from-256 (omega arith)))))
 
-  names-closed : 0 < 64 * segments → getD x (headerSize + 32 * slots + 0) 0 ≡ 0
-  names-closed l = place x (headerSize + 32 * slots + 0) (headerSize + 32 * slots) (omega arith) ∙ clear (32 * slots) (omega arith)
+  names-closed : 0 < 64 * segments → getD x (freshNamelist slots + 0) 0 ≡ 0
+  names-closed l = clear (freshNamelist slots) (64 * segments) 0 rest from-names l
 
   no-names : namesOf x ≡ []
   unfolding flat
@@ -148,8 +163,10 @@ module _ (slice application schema : List ℕ) (schemaVersion slots segments : �
     sameVersion = schema-version h;
     sameApplication = application-text;
     sameSchema = schema-text;
-    reserved = ap (take 80) from-176 ∙ take-at (zeros 80) (zeros size ++ rest) 80 refl;
-    blocks = ap (take size) from-256 ∙ take-at (zeros size) rest size (length-replicate size 0);
+    reserved = ap (take 80) from-176 ∙ take-at (zeros 80) (zeros (32 * slots) ++ tail) 80 refl;
+    index = ap (take (32 * slots)) from-256 ∙ take-at (zeros (32 * slots)) tail (32 * slots) (length-replicate (32 * slots) 0);
+    between = ap (take (freshGap slots)) from-index ∙ take-at kept _ (freshGap slots) kept-length;
+    namelist = ap (take (64 * segments)) from-names ∙ take-at (zeros (64 * segments)) rest (64 * segments) (length-replicate (64 * segments) 0);
     behind = from-blocks;
   }
 

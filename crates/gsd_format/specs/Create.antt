@@ -1,4 +1,4 @@
--- A fresh image: header, an empty index block at 256, an empty name block straight after; and create's numbers.
+-- A fresh image: header, an empty index block at 256, an empty name block at the next aligned place; and create's numbers.
 use Prim.Native.Nat.{ℕ, zero, suc, _+_, _*_, _-_}
 use mathlib.Core.Path.{_≡_}
 use mathlib.Core.List.{List, _++_}
@@ -8,7 +8,7 @@ use lib.Dec.{ltb}
 use Rattle.gsd_format.specs.declared.Opening.{Opening}
 use Rattle.gsd_format.specs.Bytes.{le, leBytes, part, zeroIn, zeros}
 use Rattle.gsd_format.specs.Refusals.{_⇒_, _▹_}
-use Rattle.gsd_format.specs.Header.{magic, version21, headerSize, greatestLength, layoutOf}
+use Rattle.gsd_format.specs.Header.{magic, version21, headerSize, greatestLength, aligned, layoutOf}
 use Rattle.gsd_format.specs.Header.{schemaVersionPlace, applicationPlace, schemaPlace, textSize, reservedPlace, reservedSize, slotSize, segmentSize}
 use Rattle.gsd_format.specs.Opening.{opening}
 
@@ -27,9 +27,24 @@ unfoldable pub orDefault : ℕ → ℕ → ℕ
 orDefault zero default = default
 orDefault (suc n) default = suc n
 
--- the length of a fresh image with so many slots and segments
+-- A fresh image with so many slots and segments. Its index block starts behind the header; where that block ends,
+abbrev pub freshIndexEnd : ℕ → ℕ
+freshIndexEnd slots = headerSize + slotSize * slots
+
+-- where its name block starts and ends,
+abbrev pub freshNamelist : ℕ → ℕ
+freshNamelist slots = aligned (freshIndexEnd slots)
+
+abbrev pub freshNamelistEnd : ℕ → ℕ → ℕ
+freshNamelistEnd slots segments = freshNamelist slots + segmentSize * segments
+
+-- how many bytes lie between the two blocks,
+abbrev pub freshGap : ℕ → ℕ
+freshGap slots = freshNamelist slots - freshIndexEnd slots
+
+-- and how many bytes it needs
 abbrev pub freshLength : ℕ → ℕ → ℕ
-freshLength slots segments = headerSize + slotSize * slots + segmentSize * segments
+freshLength slots segments = aligned (freshNamelistEnd slots segments)
 
 -- a text for the header: room for a zero is left, it holds none itself, and is filled up with zeros
 abbrev pub longestText : ℕ
@@ -52,17 +67,19 @@ unfoldable pub freshHeader : List ℕ → List ℕ → ℕ → ℕ → ℕ → L
 freshHeader application schema schemaVersion slots segments =
     magic
     ++ leBytes 8 headerSize ++ leBytes 8 slots
-    ++ leBytes 8 (headerSize + slotSize * slots) ++ leBytes 8 segments
+    ++ leBytes 8 (freshNamelist slots) ++ leBytes 8 segments
     ++ leBytes 4 schemaVersion ++ leBytes 4 version21
     ++ filled application ++ filled schema
     ++ zeros reservedSize
 
--- the slice with a fresh image at its front; bytes behind the blocks stay
+-- the slice with a fresh image at its front; bytes between the blocks and behind them stay
 unfoldable pub fresh : List ℕ → List ℕ → List ℕ → ℕ → ℕ → ℕ → List ℕ
 fresh slice application schema schemaVersion slots segments =
     freshHeader application schema schemaVersion slots segments
-    ++ zeros (slotSize * slots + segmentSize * segments)
-    ++ drop (freshLength slots segments) slice
+    ++ zeros (slotSize * slots)
+    ++ part slice (freshIndexEnd slots) (freshGap slots)
+    ++ zeros (segmentSize * segments)
+    ++ drop (freshNamelistEnd slots segments) slice
 
 -- create's number, and the slice afterwards: a refusal changes nothing
 unfoldable pub createNumber : List ℕ → List ℕ → List ℕ → ℕ → ℕ → ℕ
@@ -76,8 +93,8 @@ created slice application schema schemaVersion slots segments =
       | suc k ↦ slice
     ]
 
--- What a fresh image is: it opens with no frames, names and entries, its header is as asked, and behind its blocks the slice
--- is as it was. Its layout says that its length is the slice's
+-- What a fresh image is: it opens with no frames, names and entries, its header is as asked, its blocks are empty, and between
+-- and behind them the slice is as it was. Its layout says that its length is the slice's
 pub record Fresh (slice application schema : List ℕ) (schemaVersion slots segments : ℕ) (img : List ℕ) : Type 0 where
   pub opens : opening img ≡ Opening.Open (record { frames = 0; names = 0; entries = 0 })
   pub layout : layoutOf img ≡ record {
@@ -85,12 +102,14 @@ pub record Fresh (slice application schema : List ℕ) (schemaVersion slots segm
     version = version21;
     index = headerSize;
     slots = slots;
-    namelist = headerSize + slotSize * slots;
+    namelist = freshNamelist slots;
     segments = segments;
   }
   pub sameVersion : le 4 img schemaVersionPlace ≡ schemaVersion
   pub sameApplication : part img applicationPlace textSize ≡ filled application
   pub sameSchema : part img schemaPlace textSize ≡ filled schema
   pub reserved : part img reservedPlace reservedSize ≡ zeros reservedSize
-  pub blocks : part img headerSize (slotSize * slots + segmentSize * segments) ≡ zeros (slotSize * slots + segmentSize * segments)
-  pub behind : drop (freshLength slots segments) img ≡ drop (freshLength slots segments) slice
+  pub index : part img headerSize (slotSize * slots) ≡ zeros (slotSize * slots)
+  pub between : part img (freshIndexEnd slots) (freshGap slots) ≡ part slice (freshIndexEnd slots) (freshGap slots)
+  pub namelist : part img (freshNamelist slots) (segmentSize * segments) ≡ zeros (segmentSize * segments)
+  pub behind : drop (freshNamelistEnd slots segments) img ≡ drop (freshNamelistEnd slots segments) slice

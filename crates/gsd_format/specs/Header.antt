@@ -5,7 +5,7 @@ use mathlib.Core.Bool.{Bool, _||_}
 use lib.ListN.{length}
 use lib.Dec.{eqb}
 use Rattle.gsd_format.specs.declared.Layout.{Layout}
-use Rattle.gsd_format.specs.Bytes.{le}
+use Rattle.gsd_format.specs.Bytes.{le, roundUp}
 
 -- 0x65DF65DF65DF65DF, little-endian
 abbrev pub magic : List ℕ
@@ -81,6 +81,13 @@ slotSize = 32
 
 abbrev pub segmentSize : ℕ
 segmentSize = 64
+
+-- at multiples of this start the chunks and blocks that an append or create lays out; an image may have others elsewhere
+abbrev pub alignment : ℕ
+alignment = 64
+
+abbrev pub aligned : ℕ → ℕ
+aligned n = roundUp alignment n
 
 abbrev pub versionOf : List ℕ → ℕ
 versionOf img = le 4 img versionPlace

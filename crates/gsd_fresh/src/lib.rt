@@ -19,13 +19,22 @@ use gsd_bytes::put_half;
 use gsd_bytes::put_magic;
 use gsd_bytes::put_text;
 use gsd_bytes::put_word;
+use gsd_bytes::rounded;
 ghost use mathlib.Core.Path.{_≡_};
 ghost use Prim.Native.Nat.{_+_, _≤_};
 ghost use lib.ListN.{length};
 ghost use Rattle.gsd_format.specs.Bytes.{stored};
 ghost use Rattle.gsd_format.specs.Header.{applicationPlace, textSize};
-ghost use Rattle.gsd_format.specs.Create.{mostUnits, longestText, filled, freshLength, fresh};
+ghost use Rattle.gsd_format.specs.Create.{mostUnits, longestText, filled, freshNamelist, freshNamelistEnd, fresh};
 ghost use Rattle.gsd_fresh.specs.Numbers.{numbers};
+
+// Where the name block starts.
+pub fn namelist_place(slots: u64) -> u64
+    requires { ⌜ slots ≤ mostUnits ⌝ }
+    ensures { λ r. ⌜ r ≡ freshNamelist slots ⌝ }
+{
+    rounded(HEADER_SIZE + SLOT_SIZE * slots)
+}
 
 // The header up to its texts.
 fn put_numbers(s: &mut [u8], schema_version: u32, slots: u64, segments: u64)
@@ -36,7 +45,7 @@ fn put_numbers(s: &mut [u8], schema_version: u32, slots: u64, segments: u64)
     put_magic(s);
     put_word(s, INDEX_PLACE, HEADER_SIZE);
     put_word(s, SLOTS_PLACE, slots);
-    put_word(s, NAMELIST_PLACE, HEADER_SIZE + SLOT_SIZE * slots);
+    put_word(s, NAMELIST_PLACE, namelist_place(slots));
     put_word(s, SEGMENTS_PLACE, segments);
     put_half(s, SCHEMA_VERSION_PLACE, schema_version as u64);
     put_half(s, VERSION_PLACE, VERSION_2_1);
@@ -52,7 +61,7 @@ fn put_filled(s: &mut [u8], at: usize, t: &[u8])
     fill_zero(s, at + t.len(), at + TEXT_SIZE);
 }
 
-// Header and both blocks. Bytes behind the blocks stay.
+// Header and both blocks. Bytes between the blocks and behind them stay.
 pub fn lay_out(
     image: &mut [u8],
     application: &[u8],
@@ -65,16 +74,22 @@ pub fn lay_out(
     requires schema { ⌜ length (now schema) ≤ longestText ⌝ }
     requires slots { ⌜ slots ≤ mostUnits ⌝ }
     requires segments { ⌜ segments ≤ mostUnits ⌝ }
-    requires fits { ⌜ freshLength slots segments ≤ length (now image) ⌝ }
+    requires fits { ⌜ freshNamelistEnd slots segments ≤ length (now image) ⌝ }
     ensures { λ _. ⌜ now (image .exit)
         ≡ fresh (now (image .entry)) (now (application .entry)) (now (schema .entry)) «schema_version» slots segments ⌝ }
 {
     put_numbers(image, schema_version, slots, segments);
     put_filled(image, APPLICATION_PLACE, application);
     put_filled(image, SCHEMA_PLACE, schema);
+    let names = namelist_place(slots);
     fill_zero(
         image,
         RESERVED_PLACE,
-        (HEADER_SIZE + SLOT_SIZE * slots + SEGMENT_SIZE * segments) as usize,
+        (HEADER_SIZE + SLOT_SIZE * slots) as usize,
+    );
+    fill_zero(
+        image,
+        names as usize,
+        (names + SEGMENT_SIZE * segments) as usize,
     );
 }

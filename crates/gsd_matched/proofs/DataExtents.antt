@@ -5,9 +5,9 @@ use mathlib.Core.List.{List, [], _∷_, _++_}
 use native.Mathlib.Omega.{arith}
 use lib.ListN.{length, getD, take, drop, drop-of-length-le}
 use lib.Seq.{drop-cons}
+use Rattle.gsd_format.specs.Header.{aligned}
 use Rattle.gsd_format.proofs.Bytes.{Octets, Text}
 use Rattle.gsd_stores.specs.Stores.{Store, words, up}
-use Rattle.gsd_stores.specs.View.{aligned}
 use Rattle.gsd_stores.specs.Sheet.{Row, rowsOf, rowCount, tableEnd, nameAt, bodyAt, Exact}
 use Rattle.gsd_stores.specs.Plan.{Plan, padded, bodies, endFrom, bodyPlace}
 use Rattle.gsd_stores.specs.Steps.{storeTexts, storeData}

@@ -6,8 +6,8 @@ use native.Mathlib.Numerals.{add-one}
 use native.Mathlib.Omega.{arith}
 use lib.ListN.{length, set}
 use Rattle.gsd_format.specs.Bytes.{roundUp}
+use Rattle.gsd_format.specs.Header.{aligned}
 use Rattle.gsd_stores.specs.Stores.{half}
-use Rattle.gsd_stores.specs.View.{aligned}
 use Rattle.gsd_sheet.specs.Columns.{planWords, nameFrom, dataFrom, newRow, Filled, Kept}
 use Rattle.gsd_sheet.proofs.Columns.{filled-none, filled-more, filled-to, kept-none, kept-more}
 use Rattle.gsd_places.specs.Places.{Laid, dataEndAt, DataPlaced, NamesLaid, nameOffset, NamesPlaced}

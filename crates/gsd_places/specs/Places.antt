@@ -3,8 +3,8 @@ use Prim.Native.Nat.{ℕ, zero, suc, _+_, _-_, _≤_, _<_}
 use mathlib.Core.Path.{_≡_}
 use mathlib.Core.List.{List}
 use Rattle.gsd_format.specs.Bytes.{roundUp}
+use Rattle.gsd_format.specs.Header.{aligned}
 use Rattle.gsd_stores.specs.Stores.{wordSize, half}
-use Rattle.gsd_stores.specs.View.{aligned}
 use Rattle.gsd_sheet.specs.Columns.{dataToColumn, nameToColumn, nameFrom, dataFrom, newRow, Filled, Kept}
 
 -- the rows' names and data lie one behind the other

@@ -3,7 +3,7 @@ use Prim.Native.Nat.{ℕ, _+_, _*_, _/_}
 use mathlib.Core.Bool.{Bool, cond}
 use lib.Dec.{ltb, eqb}
 use Rattle.gsd_format.specs.declared.Layout.{Layout}
-use Rattle.gsd_stores.specs.View.{aligned}
+use Rattle.gsd_format.specs.Header.{aligned}
 use Rattle.gsd_stores.specs.Plan.{grown}
 use Rattle.gsd_places.specs.declared.Sites.{Sites}
 

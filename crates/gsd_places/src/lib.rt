@@ -3,6 +3,7 @@
 use gsd_bytes::HEADER_SIZE;
 use gsd_bytes::SEGMENT_SIZE;
 use gsd_bytes::SLOT_SIZE;
+use gsd_bytes::rounded;
 use gsd_format::Layout;
 use gsd_sheet::DATA_FROM;
 use gsd_sheet::DATA_TO;
@@ -12,8 +13,8 @@ use gsd_sheet::NEW_ROW;
 ghost use mathlib.Core.Path.{_≡_};
 ghost use Prim.Native.Nat.{_+_, _*_, _≤_, _<_, max};
 ghost use lib.ListN.{length};
-ghost use Rattle.gsd_format.specs.Header.{headerSize, greatestLength};
-ghost use Rattle.gsd_stores.specs.View.{aligned, indexEnd, namelistEnd};
+ghost use Rattle.gsd_format.specs.Header.{headerSize, greatestLength, aligned};
+ghost use Rattle.gsd_stores.specs.View.{indexEnd, namelistEnd};
 ghost use Rattle.gsd_stores.specs.Plan.{grown};
 ghost use Rattle.gsd_sheet.specs.Columns.{planWords};
 ghost use Rattle.gsd_places.specs.Places.{Laid, DataPlaced, NamesLaid, NamesPlaced};
@@ -23,14 +24,6 @@ fn greater(a: u64, b: u64) -> u64
     ensures { λ r. ⌜ r ≡ max a b ⌝ }
 {
     if a < b { b } else { a }
-}
-
-// The first place from n on at which a chunk or a block may start.
-fn rounded(n: u64) -> u64
-    requires { ⌜ n < 18446744073709551552 ⌝ }
-    ensures { λ r. ⌜ r ≡ aligned n ⌝ }
-{
-    (n + 7) / 8 * 8
 }
 
 // The end of use, from the layout and the end of the listed chunks.
@@ -45,7 +38,7 @@ pub fn end_of_use(l: Layout, chunks: u64) -> u64
     rounded(greater(HEADER_SIZE, greater(index, greater(names, chunks))))
 }
 
-// Row by row from start on, each padded to whole words: the position behind the last.
+// Row by row from start on, each where a chunk may start and padded to whole words: the position behind the last.
 pub fn place_data(plan: &mut [u64], count: usize, start: u64) -> u64
     requires long { ⌜ length (now plan) ≡ planWords ⌝ }
     requires laid { ⌜ Laid (now plan) count ⌝ }

@@ -6,7 +6,7 @@ use mathlib.Core.List.{List, [], _∷_}
 use native.Mathlib.Omega.{arith}
 use lib.ListN.{length, getD}
 use Rattle.gsd_format.specs.declared.Entry.{Entry}
-use Rattle.gsd_format.specs.Header.{v10, greatestLength, layoutOf}
+use Rattle.gsd_format.specs.Header.{v10, greatestLength, layoutOf, aligned}
 use Rattle.gsd_format.specs.Types.{chunkSize}
 use Rattle.gsd_format.specs.Names.{flat, namesOf}
 use Rattle.gsd_format.specs.Entries.{chunksEnd, entriesOf}
@@ -16,7 +16,7 @@ use Rattle.gsd_format.proofs.Names.{names-hold, names-of-block, names-recent, n
 use Rattle.gsd_format.proofs.Entries.{image-entries}
 use Rattle.gsd_format.proofs.Walk.{chunks-none, chunks-more}
 use Rattle.gsd_format.proofs.Verdict.{Opens, verdict-zero}
-use Rattle.gsd_stores.specs.View.{View, viewOf, aligned, endOfUse, indexEnd, namelistEnd}
+use Rattle.gsd_stores.specs.View.{View, viewOf, endOfUse, indexEnd, namelistEnd}
 use Rattle.gsd_stores.proofs.Plan.{end-of-use}
 use Rattle.gsd_open.specs.declared.survey.Survey.{Survey}
 use Rattle.gsd_names.specs.NameLists.{namesIn, Spans}

@@ -7,11 +7,12 @@ use native.Mathlib.Numerals.{add-one}
 use native.Mathlib.Omega.{arith}
 use lib.ListN.{length, getD, set, take, length-append}
 use Rattle.gsd_format.specs.Bytes.{stored}
+use Rattle.gsd_format.specs.Header.{aligned}
 use Rattle.gsd_format.specs.Names.{flat, indexOf}
 use Rattle.gsd_format.specs.Lookup.{none}
 use Rattle.gsd_format.proofs.Bytes.{stored-length, stored-below, stored-inside}
 use Rattle.gsd_format.proofs.Names.{flat-sizes}
-use Rattle.gsd_stores.specs.View.{View, viewOf, aligned, indexEnd, namelistEnd}
+use Rattle.gsd_stores.specs.View.{View, viewOf, indexEnd, namelistEnd}
 use Rattle.gsd_stores.specs.Sheet.{Row, rowCount, rowsOf, rowAt, nameAt}
 use Rattle.gsd_stores.specs.Plan.{Plan, newNames, bodies, endFrom}
 use Rattle.gsd_stores.specs.Steps.{nameBlock}

@@ -7,10 +7,10 @@ use native.Mathlib.Omega.{arith}
 use lib.ListN.{length, getD, take}
 use lib.Seq.{take-suc}
 use Rattle.gsd_format.specs.Bytes.{roundUp}
+use Rattle.gsd_format.specs.Header.{aligned}
 use Rattle.gsd_format.specs.Names.{flat}
 use Rattle.gsd_format.proofs.Names.{flat-none, flat-more}
 use Rattle.gsd_stores.specs.Stores.{half}
-use Rattle.gsd_stores.specs.View.{aligned}
 use Rattle.gsd_stores.specs.Sheet.{rowCount, tableEnd, rowsOf}
 use Rattle.gsd_stores.specs.Plan.{bodies, endFrom}
 use Rattle.gsd_stores.specs.Demand3.{noRow}

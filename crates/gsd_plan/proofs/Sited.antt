@@ -7,11 +7,11 @@ use native.Mathlib.Omega.{arith}
 use lib.ListN.{length}
 use lib.Dec.{ltb, eqb}
 use borrow.Author.Tests.{lt-ltb, le-ltb}
-use Rattle.gsd_format.specs.Header.{greatestLength}
+use Rattle.gsd_format.specs.Header.{greatestLength, aligned}
 use Rattle.gsd_format.specs.Names.{flat}
 use Rattle.gsd_format.proofs.Bytes.{Octets}
 use Rattle.gsd_format.proofs.Refusals.{met, passed}
-use Rattle.gsd_stores.specs.View.{View, viewOf, aligned, endOfUse, indexEnd, namelistEnd}
+use Rattle.gsd_stores.specs.View.{View, viewOf, endOfUse, indexEnd, namelistEnd}
 use Rattle.gsd_stores.specs.Sheet.{Row, rowCount, rowsOf}
 use Rattle.gsd_stores.specs.Plan.{Plan, planOf, newNames, endFrom, dataEnd, finalPosition}
 use Rattle.gsd_stores.specs.Append.{roomTest}

@@ -6,8 +6,9 @@ use mathlib.Core.List.{List}
 use native.Mathlib.Omega.{arith}
 use lib.ListN.{length}
 use borrow.Author.Tests.{ne-eqb}
+use Rattle.gsd_format.specs.Header.{aligned}
 use Rattle.gsd_format.specs.Names.{flat}
-use Rattle.gsd_stores.specs.View.{View, aligned}
+use Rattle.gsd_stores.specs.View.{View}
 use Rattle.gsd_stores.specs.Sheet.{Row}
 use Rattle.gsd_stores.specs.Plan.{Plan, planOf, dataEnd, namesDone, indexStart, finalPosition}
 use Rattle.gsd_stores.specs.Steps.{nameBlock, indexBlock}

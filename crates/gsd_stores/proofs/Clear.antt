@@ -7,10 +7,11 @@ use mathlib.Core.List.{List, [], _∷_}
 use native.Mathlib.Decide.{decLt}
 use native.Mathlib.Omega.{arith}
 use lib.ListN.{length, getD, List·getD-eq-default}
+use Rattle.gsd_format.specs.Header.{aligned}
 use Rattle.gsd_format.specs.Names.{flat}
 use Rattle.gsd_format.proofs.Lists.{Each}
 use Rattle.gsd_format.proofs.Bytes.{Text, le-zero}
-use Rattle.gsd_stores.specs.View.{View, aligned, indexEnd, namelistEnd, entriesEnd, namesEnd}
+use Rattle.gsd_stores.specs.View.{View, indexEnd, namelistEnd, entriesEnd, namesEnd}
 use Rattle.gsd_stores.specs.Plan.{Plan, endFrom, dataEnd}
 use Rattle.gsd_stores.specs.Steps.{clearIndex, clearNames, storeTexts, storeData}
 use Rattle.gsd_stores.proofs.Stores.{between, over-off}

@@ -1,7 +1,7 @@
 -- What one image keeps of another: entries found stay found with their bytes, nothing appears in older frames, and names stay
 -- listed.
 use Prim.Native.Nat.{ℕ, _+_, _*_, _≤_, _<_}
-use mathlib.Core.Path.{_≡_, refl, _∙_}
+use mathlib.Core.Path.{_≡_, refl, _∙_, sym}
 use mathlib.Core.Logic.{inr, ⊎-elim}
 use mathlib.Core.List.{List}
 use native.Mathlib.Omega.{arith}
@@ -15,7 +15,7 @@ use Rattle.gsd_format.specs.Entries.{entriesOf}
 use Rattle.gsd_format.specs.Opening.{verdict}
 use Rattle.gsd_format.specs.Lookup.{lookup, lookupIn, chunkOf}
 use Rattle.gsd_format.specs.Answers.{listedNumber}
-use Rattle.gsd_format.proofs.Lookup.{opened-lookup, look-41, look-42, look-absent}
+use Rattle.gsd_format.proofs.Lookup.{opened-lookup, look-found, look-41, look-42, look-absent}
 use Rattle.gsd_stores.specs.Sheet.{Row}
 use Rattle.gsd_stores.specs.Runs.{frames}
 use Rattle.gsd_stores.specs.Demand3.{Absent, Recorded, Complete, noRow}
@@ -60,6 +60,10 @@ number-found l e h = rw h
 pub absent-none : (a : List ℕ) (frame : ℕ) (name : List ℕ) (e : Entry) → Absent a frame name → lookup a frame name ≡ Listed.Found e → ⊥
 absent-none a frame name e h g =
     ⊎-elim (λ n. omega (arith, n, number-found (lookup a frame name) e g)) (λ n. omega (arith, n, number-found (lookup a frame name) e g)) h
+
+-- what is found is in a frame that is there
+pub found-below : (a : List ℕ) → verdict a ≡ 0 → (frame : ℕ) (name : List ℕ) (e : Entry) → lookup a frame name ≡ Listed.Found e → frame < frames a
+found-below a o frame name e f = look-found (entriesOf a) (namesOf a) frame name e .0 (sym (opened-lookup a o frame name) ∙ f) .0
 
 -- a lookup in a frame that is there finds an entry, or gives 41 or 42
 pub none-absent : (a : List ℕ) (frame : ℕ) (name : List ℕ) → verdict a ≡ 0 → frame < frames a → ((e : Entry) → lookup a frame name ≡ Listed.Found e → ⊥) → Absent a frame name

@@ -29,3 +29,4 @@ pub mod Demand3
 pub mod Readings
 pub mod Limits
 pub mod Places
+pub mod Starts

@@ -12,6 +12,7 @@ use Rattle.gsd_format.specs.Lookup.{none}
 use Rattle.gsd_format.specs.Names.{Distinct}
 use Rattle.gsd_format.proofs.Ids.{distinct-take}
 use Rattle.gsd_format.proofs.Verdict.{sound-ids}
+use Rattle.gsd_stores.specs.Stores.{after}
 use Rattle.gsd_stores.specs.View.{View, viewOf}
 use Rattle.gsd_stores.specs.Sheet.{Row, rowsOf}
 use Rattle.gsd_stores.specs.Plan.{Plan, planOf}
@@ -163,13 +164,22 @@ module _ (x : List ℕ) (rs : List Row) (ok : Valid x rs) where
         }) r (ok .rows) (sound-ids (v .entries) (v .layout) (length (v .names)) (omega (arith, legal .few)) (begins .sound)));
       }
 
+  -- all of its stores
+  stores : Phase (Base x v) (Final x (readyView v p) (p .entries) (p .start) (p .body)) (Stored x) (stepsOf x v p)
+  stores = whole-append (ready-good v rs p r) begins some-pass last-pass
+
+  start : Base x v x
+  start = base-start begins
+
 -- every moment of an accepted append
 pub moments : (x s : List ℕ) → appendTest x s ≡ 0 → Valid x (rowsOf s) → Accepted x s
-moments x s h ok =
-    let stores : Phase (Base x (viewOf x)) (Final x _ _ _ _) (Stored x) (stepsOf x (viewOf x) (planOf (viewOf x) (rowsOf s)))
-    = whole-append (ready-good _ _ _ (r x (rowsOf s) ok)) (begins x (rowsOf s) ok) (some-pass x (rowsOf s) ok) (last-pass x (rowsOf s) ok) in
-    let start : Base x (viewOf x) x = base-start (begins x (rowsOf s) ok) in
-    record {
-      each = λ k l. rw (stores-are x s h) (stores .during x start k (rw (stores-are x s h) at l));
-      last = rw (stores-are x s h) (grows x (rowsOf s) ok _ (stores .final x start));
-    }
+moments x s h ok = record {
+  each = λ k l. rw (stores-are x s h) (stores x (rowsOf s) ok .during x (start x (rowsOf s) ok) k (rw (stores-are x s h) at l));
+  last = rw (stores-are x s h) (grows x (rowsOf s) ok _ (stores x (rowsOf s) ok .final x (start x (rowsOf s) ok)));
+}
+
+-- and what is shown after the last
+pub last-shown : (x s : List ℕ) → appendTest x s ≡ 0 → Valid x (rowsOf s) →
+    let p : Plan = planOf (viewOf x) (rowsOf s) in
+    Is (after x (storesFor x s)) (withEntries (readyView (viewOf x) p) (viewOf x .entries ++ p .entries))
+last-shown x s h ok = rw (stores-are x s h) (stores x (rowsOf s) ok .final x (start x (rowsOf s) ok) .is)

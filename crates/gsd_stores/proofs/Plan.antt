@@ -10,6 +10,7 @@ use lib.Dec.{ltb}
 use borrow.Author.Tests.{ltb-false, le-leb, lt-leb}
 use Rattle.gsd_format.specs.declared.Entry.{Entry}
 use Rattle.gsd_format.specs.declared.Layout.{Layout}
+use Rattle.gsd_format.specs.Header.{alignment, aligned}
 use Rattle.gsd_format.specs.Types.{chunkSize}
 use Rattle.gsd_format.specs.Names.{flat, indexOf, Has}
 use Rattle.gsd_format.specs.Entries.{framesOf, chunksEnd}
@@ -17,7 +18,7 @@ use Rattle.gsd_format.specs.Lookup.{none}
 use Rattle.gsd_format.proofs.Lists.{Each, Any, each-at, at-each, any-at, at-any}
 use Rattle.gsd_format.proofs.Ids.{index-inj}
 use Rattle.gsd_stores.specs.Sheet.{Row}
-use Rattle.gsd_stores.specs.View.{View, alignment, aligned, indexEnd, namelistEnd, endOfUse}
+use Rattle.gsd_stores.specs.View.{View, indexEnd, namelistEnd, endOfUse}
 use Rattle.gsd_stores.specs.Plan.{Plan, bodies, bodyPlace, newNames, newEntries, sorted, doubled, grown, planOf}
 use Rattle.gsd_stores.specs.Plan.{dataEnd, namesStart, namesDone, indexStart, finalPosition}
 use Rattle.gsd_stores.specs.Steps.{nameBlock, indexBlock}

@@ -12,8 +12,7 @@ use Rattle.gsd_format.specs.declared.Entry.{Entry}
 use Rattle.gsd_format.specs.declared.Listed.{Listed}
 use Rattle.gsd_format.specs.Refusals.{_⇒_, _▹_}
 use Rattle.gsd_format.specs.Types.{chunkSize}
-use Rattle.gsd_format.specs.Names.{namesOf, indexOf, Has}
-use Rattle.gsd_format.specs.Entries.{entriesOf}
+use Rattle.gsd_format.specs.Names.{indexOf, Has}
 use Rattle.gsd_format.specs.Opening.{verdict}
 use Rattle.gsd_format.specs.Lookup.{lookup}
 use Rattle.gsd_format.specs.Elements.{NanAt, anyNan}
@@ -22,14 +21,13 @@ use Rattle.gsd_format.proofs.Lists.{Each, each-at, any-at, at-any, one-false, o
 use Rattle.gsd_format.proofs.Bytes.{part-at}
 use Rattle.gsd_format.proofs.Ids.{index-at, has-at}
 use Rattle.gsd_format.proofs.Verdict.{verdict-most}
-use Rattle.gsd_format.proofs.Lookup.{look-found, opened-lookup}
 use Rattle.gsd_format.proofs.Elements.{nan-same, nan-found, nan-in}
 use Rattle.gsd_stores.specs.Sheet.{Row, rowsOf, rowNames, nanRow, anyNanRow, formTest, sheetTest}
 use Rattle.gsd_stores.specs.Append.{imageTest, planTest, appendTest}
 use Rattle.gsd_stores.specs.Demand3.{Demand3, Recorded, Complete, noRow}
 use Rattle.gsd_stores.specs.Runs.{Call, Moment, afterCall, frames, lastStoreMade, completed}
 use Rattle.gsd_stores.specs.Readings.{Undefined, earlierTest, Readings, Defined}
-use Rattle.gsd_stores.proofs.Keep.{absent-none}
+use Rattle.gsd_stores.proofs.Keep.{found-below, absent-none}
 use Rattle.gsd_stores.proofs.Runs.{made-both, end-follows}
 use Rattle.gsd_stores.proofs.Demand3.{demand3}
 
@@ -138,7 +136,7 @@ module _ (x : List ℕ) (cs : List Call) (opens : verdict x ≡ 0) (img : List �
   -- at every moment of a run, of the frames that its appends made
   pub run-defined : Defined img (frames x)
   run-defined frame name e l found k m nan =
-      let below : frame < frames img = look-found (entriesOf img) (namesOf img) frame name e .0 (sym (opened-lookup img (claim .always moment) frame name) ∙ found) .0 in
+      let below : frame < frames img = found-below img (claim .always moment) frame name e found in
       let i : ℕ = frame - frames x in
       let place : frames x + i ≡ frame = omega arith in
       let few : i < length (completed x cs) = omega (arith, claim .grows (end-follows moment), claim .counted) in

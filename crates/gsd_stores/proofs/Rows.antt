@@ -10,6 +10,7 @@ use lib.Seq.{take-suc, take-length}
 use borrow.Author.Tests.{lt-ltb, le-ltb}
 use Rattle.gsd_format.specs.declared.Entry.{Entry}
 use Rattle.gsd_format.specs.Bytes.{zeros, roundUp}
+use Rattle.gsd_format.specs.Header.{aligned}
 use Rattle.gsd_format.specs.Names.{indexOf, Has, Lacks, Distinct}
 use Rattle.gsd_format.specs.Lookup.{none}
 use Rattle.gsd_format.proofs.Lists.{Each, Any, each-at, at-each, at-any, map-each}
@@ -17,7 +18,6 @@ use Rattle.gsd_format.proofs.Bytes.{Text}
 use Rattle.gsd_format.proofs.Ids.{index-here, index-on, index-inj, index-behind, distinct-append}
 use Rattle.gsd_format.proofs.Ids.{has-any, any-has, has-front, has-back, lacks-each, each-lacks}
 use Rattle.gsd_stores.specs.Sheet.{Row, rowNames}
-use Rattle.gsd_stores.specs.View.{aligned}
 use Rattle.gsd_stores.specs.Plan.{padded, bodies, endFrom, bodyPlace, newNames, newEntries}
 use Rattle.gsd_stores.specs.Demand3.{noRow}
 use Rattle.gsd_stores.proofs.Texts.{Stand, end-more}

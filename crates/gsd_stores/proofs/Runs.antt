@@ -58,7 +58,7 @@ after-none x = refl
 pub refused-keeps : (x s : List ℕ) (k : ℕ) → (appendTest x s ≡ 0 → ⊥) → after x (take k (storesFor x s)) ≡ x
 refused-keeps x s k h = rw (stores-refused x s h, take-nil) (after-none x)
 
-after-call : (x : List ℕ) (c : Call) → afterCall x c ≡ afterStores x c (storesMade x c)
+pub after-call : (x : List ℕ) (c : Call) → afterCall x c ≡ afterStores x c (storesMade x c)
 after-call x c = appended-is x (c .sheet) (c .limit)
 
 -- the start of a call is its moment after 0 stores

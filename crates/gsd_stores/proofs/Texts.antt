@@ -4,8 +4,8 @@ use mathlib.Core.Path.{_≡_, _∙_}
 use mathlib.Core.List.{List, [], _∷_}
 use native.Mathlib.Omega.{arith}
 use lib.ListN.{length, getD}
+use Rattle.gsd_format.specs.Header.{aligned}
 use Rattle.gsd_format.proofs.Bytes.{Text}
-use Rattle.gsd_stores.specs.View.{aligned}
 use Rattle.gsd_stores.specs.Plan.{endFrom}
 
 -- they stand so from pos on

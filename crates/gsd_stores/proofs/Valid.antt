@@ -12,7 +12,7 @@ use Rattle.gsd_format.specs.declared.Entry.{Entry}
 use Rattle.gsd_format.specs.declared.Layout.{Layout}
 use Rattle.gsd_format.specs.Bytes.{part, Apart}
 use Rattle.gsd_format.specs.Types.{known, chunkSize}
-use Rattle.gsd_format.specs.Header.{greatestLength, v10, layoutOf}
+use Rattle.gsd_format.specs.Header.{greatestLength, v10, layoutOf, aligned, alignment}
 use Rattle.gsd_format.specs.Names.{namesOf, Distinct}
 use Rattle.gsd_format.specs.Entries.{entriesOf, framesOf}
 use Rattle.gsd_format.specs.Opening.{verdict, mostNames, greatestFrame, Blocks}
@@ -26,7 +26,7 @@ use Rattle.gsd_format.proofs.Entries.{Fits, Ordered, ShortIds, frames-most, fra
 use Rattle.gsd_format.proofs.Arranged.{leastOf, arranged-ordered}
 use Rattle.gsd_format.proofs.Verdict.{Sound, AllSound, Opens, verdict-zero, sound-ids}
 use Rattle.gsd_stores.specs.Sheet.{Row, rowsOf, rowNames, mostRows}
-use Rattle.gsd_stores.specs.View.{View, viewOf, aligned}
+use Rattle.gsd_stores.specs.View.{View, viewOf}
 use Rattle.gsd_stores.specs.Plan.{Plan, newNames, endFrom, bodyPlace, planOf, dataEnd, namesStart, namesDone, indexStart, finalPosition}
 use Rattle.gsd_stores.specs.Append.{imageTest, planTest, appendTest}
 use Rattle.gsd_stores.specs.Demand3.{noRow}
@@ -90,7 +90,7 @@ pub record NewSound (v : View) (p : Plan) (e : Entry) : Type 0 where
   pub frame : e .frame ≡ framesOf (v .entries)
   pub low : 256 ≤ e .location
   pub behind : p .start ≤ e .location
-  pub even : e .location % 8 ≡ 0
+  pub start : e .location % alignment ≡ 0
   pub high : e .location + chunkSize e ≤ dataEnd p
   pub typed : known (v .layout .version) (e .kind) ≡ true
   pub id : e .id < length (namesAfter v p)
@@ -102,7 +102,7 @@ module _ (v : View) (rs : List Row) (p : Plan) (plan : Planned v rs p) (ok : Row
     frame = refl;
     low = omega (arith, plan .room .header, place-low (p .start) rs i);
     behind = place-low (p .start) rs i;
-    even = omega arith;
+    start = omega arith;
     high = omega (arith, ok i l .size, place-inside rs (p .start) i l, ap (endFrom (p .start)) (plan .body));
     typed = ok i l .typed;
     id = rw (plan .fresh) (all-has (v .names) rs i l);

@@ -8,7 +8,8 @@ use native.Mathlib.Omega.{arith}
 use lib.ListN.{length, take}
 use lib.Seq.{take-length}
 use Rattle.gsd_format.specs.declared.Layout.{Layout}
-use Rattle.gsd_stores.specs.View.{View, aligned}
+use Rattle.gsd_format.specs.Header.{aligned}
+use Rattle.gsd_stores.specs.View.{View}
 use Rattle.gsd_stores.specs.Plan.{Plan, dataEnd, namesStart, namesDone, indexStart, finalPosition}
 use Rattle.gsd_stores.specs.Steps.{moveNames, moveIndex, nameBlock, stepsOf}
 use Rattle.gsd_stores.proofs.Phases.{Phase, _⨾_}

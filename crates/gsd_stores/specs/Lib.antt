@@ -8,3 +8,4 @@ pub mod Append
 pub mod Runs
 pub mod Demand3
 pub mod Readings
+pub mod Starts

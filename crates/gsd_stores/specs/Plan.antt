@@ -6,12 +6,12 @@ use lib.ListN.{length, take}
 use lib.Dec.{ltb, leb}
 use Rattle.gsd_format.specs.declared.Entry.{Entry}
 use Rattle.gsd_format.specs.Bytes.{zeros, roundUp}
-use Rattle.gsd_format.specs.Header.{slotSize, segmentSize}
+use Rattle.gsd_format.specs.Header.{slotSize, segmentSize, aligned}
 use Rattle.gsd_format.specs.Names.{flat, indexOf}
 use Rattle.gsd_format.specs.Entries.{framesOf}
 use Rattle.gsd_stores.specs.Sheet.{Row}
 use Rattle.gsd_stores.specs.Stores.{wordSize}
-use Rattle.gsd_stores.specs.View.{View, aligned, endOfUse}
+use Rattle.gsd_stores.specs.View.{View, endOfUse}
 
 pub record Plan : Type 0 where
   -- where the data begin: the end of use

@@ -5,10 +5,10 @@ use mathlib.Core.Bool.{Bool, true, false, cond}
 use lib.ListN.{length}
 use Rattle.gsd_format.specs.declared.Entry.{Entry}
 use Rattle.gsd_format.specs.Bytes.{leBytes, part}
-use Rattle.gsd_format.specs.Header.{indexPlace, namelistPlace, slotSize}
+use Rattle.gsd_format.specs.Header.{indexPlace, namelistPlace, slotSize, aligned}
 use Rattle.gsd_format.specs.Names.{flat}
 use Rattle.gsd_stores.specs.Stores.{Store, wordSize, words, up, down, slotsDown}
-use Rattle.gsd_stores.specs.View.{View, viewOf, aligned, entriesEnd, namesEnd, namelistEnd}
+use Rattle.gsd_stores.specs.View.{View, viewOf, entriesEnd, namesEnd, namelistEnd}
 use Rattle.gsd_stores.specs.Sheet.{Row}
 use Rattle.gsd_stores.specs.Plan.{Plan, planOf, namesStart, indexStart}
 

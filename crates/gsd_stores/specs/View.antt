@@ -4,8 +4,7 @@ use mathlib.Core.List.{List}
 use lib.ListN.{length}
 use Rattle.gsd_format.specs.declared.Entry.{Entry}
 use Rattle.gsd_format.specs.declared.Layout.{Layout}
-use Rattle.gsd_format.specs.Bytes.{roundUp}
-use Rattle.gsd_format.specs.Header.{headerSize, slotSize, segmentSize, layoutOf}
+use Rattle.gsd_format.specs.Header.{headerSize, slotSize, segmentSize, aligned, layoutOf}
 use Rattle.gsd_format.specs.Names.{namesOf, flat}
 use Rattle.gsd_format.specs.Entries.{entriesOf, chunksEnd}
 
@@ -29,13 +28,6 @@ entriesEnd v = v .layout .index + slotSize * length (v .entries)
 
 abbrev pub namesEnd : View → ℕ
 namesEnd v = v .layout .namelist + length (flat (v .names))
-
--- chunks and blocks start at multiples of this
-abbrev pub alignment : ℕ
-alignment = 8
-
-abbrev pub aligned : ℕ → ℕ
-aligned n = roundUp alignment n
 
 -- the end of use (a term of this library): the first aligned place behind the header, both blocks and all listed chunks.
 -- Room behind it, used by a stopped append or not, is free

@@ -20,7 +20,7 @@ fn end_of_use(image: &[u8]) -> u64 {
     let index = wrapping_add_u64(s.layout.index, 32 * (s.layout.slots % 65536));
     let names = wrapping_add_u64(s.layout.namelist, 64 * (s.layout.segments % 65536));
     let end = greater(256, greater(s.chunks_end, greater(index, names)));
-    wrapping_add_u64(end, 7) / 8 * 8
+    wrapping_add_u64(end, 63) / 64 * 64
 }
 
 fn word_at(image: &[u8; 32768], at: u64) -> u64 {

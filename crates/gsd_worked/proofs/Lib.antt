@@ -1,2 +1,3 @@
--- The proof of the worked cases.
+-- The proofs of the worked cases.
+pub mod Starts
 pub mod Table

@@ -28,10 +28,11 @@ use Rattle.gsd_stores.specs.Runs.{afterRun, lastStoreMade, completed}
 use Rattle.gsd_worked.specs.Table.{tableRow, sheetA, sheetB, sheetOf, createdIn, madeIn, freshIn, inVersion, stepCounts, shown, table, versions}
 use Rattle.gsd_worked.specs.Table.{entriesFrom, search, probes, framed, sized, gaps, blocks, defaults}
 use Rattle.gsd_worked.specs.Table.{packed, sheetWith, sheetWithout, sheetNamed, alone, inFirst, inLast, undefined}
-use Rattle.gsd_worked.specs.Table.{inSegments, over, image10, named, entered, emptied, answered, first10, passes}
+use Rattle.gsd_worked.specs.Table.{inSegments, over, image10, named, entered, emptied, answered, first10, starts, passes}
+use Rattle.gsd_worked.proofs.Starts.{starts-pass}
 
 pub worked : (passes table ≡ true) × (passes versions ≡ true) × (passes probes ≡ true) × (passes gaps ≡ true) × (passes defaults ≡ true)
-    × (passes undefined ≡ true) × (passes first10 ≡ true)
+    × (passes undefined ≡ true) × (passes first10 ≡ true) × (passes starts ≡ true)
 unfolding le leBytes same zeroIn stored ascii _⇒_ _▹_ sizeOf lastType layoutOf partsAt beforeZero segmentsAt blockParts nameParts
     namesOf flat indexOf entryAt entriesAt entriesOf framesFrom headerTest blocksTest unclosedFrom openName twins namesTest
     repeated misplaced entryTest entriesTest verdict countsOf
@@ -45,4 +46,4 @@ unfolding le leBytes same zeroIn stored ascii _⇒_ _▹_ sizeOf lastType layout
     stepCounts shown sheetOf inVersion elementOf elementIn element halve firstId walk reach probed searched searchTest
     unless size span climb entriesFrom search framed sized blocks packed sheetWith sheetWithout sheetNamed alone inFirst inLast
     inSegments over image10 named entered emptied answered table versions probes gaps defaults undefined first10 passes
-worked = (refl, refl, refl, refl, refl, refl, refl)
+worked = (refl, refl, refl, refl, refl, refl, refl, starts-pass)

@@ -3,7 +3,7 @@ use Prim.Native.Nat.{ℕ, zero, suc, _+_, _*_, _-_}
 use Prim.Native.String.{String}
 use mathlib.Core.List.{List, [], _∷_, _++_, map}
 use mathlib.Core.Bool.{Bool, true, _&&_}
-use lib.ListN.{getD, length, take, drop}
+use lib.ListN.{getD, length, take, drop, replicate}
 use Rattle.gsd_format.specs.Bytes.{same, leBytes, zeros, stored}
 use Rattle.gsd_format.specs.Ascii.{ascii}
 use Rattle.gsd_format.specs.Types.{sizeOf}
@@ -21,7 +21,7 @@ use Rattle.gsd_format.specs.Create.{createNumber, created}
 use Rattle.gsd_format.specs.Listing.{printed}
 use Rattle.gsd_format.specs.Answers.{listedNumber, listedValues, elementValues}
 use Rattle.gsd_stores.specs.View.{View, viewOf, endOfUse}
-use Rattle.gsd_stores.specs.Sheet.{rowsOf, sheetTest}
+use Rattle.gsd_stores.specs.Sheet.{Row, rowsOf, sheetTest}
 use Rattle.gsd_stores.specs.Plan.{Plan, planOf}
 use Rattle.gsd_stores.specs.Steps.{clearIndex, clearNames, storeData, moveNames, storeNames, moveIndex, storeEntries, nameBlock, indexBlock}
 use Rattle.gsd_stores.specs.Steps.{indexBytes}
@@ -93,8 +93,8 @@ table =
     let a : List ℕ = appended x sheetA 23 in
     let b34 : List ℕ = appended a sheetB 34 in
     let b : List ℕ = appended a sheetB 43 in
-    let a552 : List ℕ = appended (freshIn 552) sheetA 23 in
-    let a551 : List ℕ = appended (freshIn 551) sheetA 23 in
+    let a704 : List ℕ = appended (freshIn 704) sheetA 23 in
+    let a703 : List ℕ = appended (freshIn 703) sheetA 23 in
     record { says = "a fresh image: end of use 384, 0 frames"; got = endIn x ∷ shown x; expected = 384 ∷ 0 ∷ 0 ∷ 0 ∷ 0 ∷ [] }
     ∷ record { says = "383 bytes: 52"; got = createdIn 2 1 383 ∷ []; expected = 52 ∷ [] }
     ∷ record { says = "384: made"; got = createdIn 2 1 384 ∷ shown (freshIn 384); expected = 0 ∷ 0 ∷ 0 ∷ 0 ∷ 0 ∷ [] }
@@ -105,26 +105,26 @@ table =
     }
     ∷ record { says = "after 22: 0 frames, 1 name"; got = shown a22; expected = 0 ∷ 0 ∷ 1 ∷ 0 ∷ [] }
     ∷ record {
-      says = "after 23: 1 frame, location 384, end of use 400, and what the program prints";
+      says = "after 23: 1 frame, location 384, end of use 448, and what the program prints";
       got = shown a ++ getD (entriesOf a) 0 none .location ∷ endIn a ∷ printed a;
-      expected = 0 ∷ 1 ∷ 1 ∷ 1 ∷ 384 ∷ 400 ∷ ascii "frames 1 names 1 entries 1\n0 0 9 3 1 384\n";
+      expected = 0 ∷ 1 ∷ 1 ∷ 1 ∷ 384 ∷ 448 ∷ ascii "frames 1 names 1 entries 1\n0 0 9 3 1 384\n";
     }
     ∷ record {
-      says = "sheet B next, 60 bytes: 4 + 8 + 3 + 2 + 18 + 8 = 43 stores; the index moves to 424 with 4 slots, end of use 552";
+      says = "sheet B next, 60 bytes: 4 + 8 + 3 + 2 + 18 + 8 = 43 stores; the index moves to 576 with 4 slots, end of use 704";
       got = length sheetB ∷ stepCounts a sheetB ++ shown b ++ layoutOf b .index ∷ layoutOf b .slots ∷ endIn b ∷ [];
-      expected = 60 ∷ 4 ∷ 8 ∷ 3 ∷ 0 ∷ 2 ∷ 18 ∷ 8 ∷ 43 ∷ 0 ∷ 2 ∷ 2 ∷ 3 ∷ 424 ∷ 4 ∷ 552 ∷ [];
+      expected = 60 ∷ 4 ∷ 8 ∷ 3 ∷ 0 ∷ 2 ∷ 18 ∷ 8 ∷ 43 ∷ 0 ∷ 2 ∷ 2 ∷ 3 ∷ 576 ∷ 4 ∷ 704 ∷ [];
     }
     ∷ record {
-      says = "after store 34 the header says 424 with 2 slots, and 1 entry is listed";
+      says = "after store 34 the header says 576 with 2 slots, and 1 entry is listed";
       got = layoutOf b34 .index ∷ layoutOf b34 .slots ∷ shown b34;
-      expected = 424 ∷ 2 ∷ 0 ∷ 1 ∷ 2 ∷ 1 ∷ [];
+      expected = 576 ∷ 2 ∷ 0 ∷ 1 ∷ 2 ∷ 1 ∷ [];
     }
     ∷ record {
-      says = "in a slice of 552 it fits";
-      got = appendTest a552 sheetB ∷ shown (appended a552 sheetB 43);
+      says = "in a slice of 704 it fits";
+      got = appendTest a704 sheetB ∷ shown (appended a704 sheetB 43);
       expected = 0 ∷ 0 ∷ 2 ∷ 2 ∷ 3 ∷ [];
     }
-    ∷ record { says = "in 551: 29"; got = appendTest a551 sheetB ∷ []; expected = 29 ∷ [] }
+    ∷ record { says = "in 703: 29"; got = appendTest a703 sheetB ∷ []; expected = 29 ∷ [] }
     ∷ record { says = "frame 0, heater, after B: 42"; got = listedNumber (lookup b 0 (ascii "heater")) ∷ []; expected = 42 ∷ [] }
     ∷ record { says = "frame 2: 40"; got = listedNumber (lookup b 2 (ascii "probe")) ∷ []; expected = 40 ∷ [] }
     ∷ record { says = "name fan: 41"; got = listedNumber (lookup b 1 (ascii "fan")) ∷ []; expected = 41 ∷ [] }
@@ -296,7 +296,7 @@ defaults =
       expected = 256 ∷ 512 ∷ 16640 ∷ 16 ∷ 0 ∷ 0 ∷ 0 ∷ 0 ∷ [];
     }
     ∷ record { says = "0 slots and 1 segment: 16,704"; got = createdIn 0 1 16703 ∷ createdIn 0 1 16704 ∷ []; expected = 52 ∷ 0 ∷ [] }
-    ∷ record { says = "1 slot and 0 segments: 1,312"; got = createdIn 1 0 1311 ∷ createdIn 1 0 1312 ∷ []; expected = 52 ∷ 0 ∷ [] }
+    ∷ record { says = "1 slot and 0 segments: 1,344"; got = createdIn 1 0 1343 ∷ createdIn 1 0 1344 ∷ []; expected = 52 ∷ 0 ∷ [] }
     ∷ record {
       says = "64 slots, asked for: 3,328";
       got = createdIn 64 0 3327 ∷ createdIn 64 0 3328 ∷ blocks (madeIn 64 0 3328);
@@ -395,15 +395,15 @@ inSegments (t ∷ ts) = t ++ zeros (segmentSize - length t) ++ inSegments ts
 unfoldable pub over : List ℕ → ℕ → List ℕ → List ℕ
 over img at bytes = take at img ++ bytes ++ drop (at + length bytes) img
 
--- an image of 1.0 with these segments and entries: 5 slots from 256 on, 4 segments from 416, data from 672
+-- an image of 1.0 with these segments and entries: 5 slots from 256 on, 4 segments from 448, data from 704
 unfoldable pub image10 : List (List ℕ) → List Entry → List ℕ
 image10 texts es =
-    let slice : List ℕ = zeros 672 ++ 70 ∷ 71 ∷ 72 ∷ 73 ∷ zeros 4 in
-    over (over (inVersion version10 (created slice [] [] 0 5 4)) 416 (inSegments texts)) 256 (indexBytes es)
+    let slice : List ℕ = zeros 704 ++ 70 ∷ 71 ∷ 72 ∷ 73 ∷ zeros 4 in
+    over (over (inVersion version10 (created slice [] [] 0 5 4)) 448 (inSegments texts)) 256 (indexBytes es)
 
 -- an entry of one element; its type is u8 where none is said, and its place that of its id
 abbrev pub typed : ℕ → ℕ → ℕ → Entry
-typed kind frame id = record { frame = frame; n = 1; location = 672 + id; m = 1; id = id; kind = kind; flags = 0 }
+typed kind frame id = record { frame = frame; n = 1; location = 704 + id; m = 1; id = id; kind = kind; flags = 0 }
 
 abbrev pub byte : ℕ → ℕ → Entry
 byte frame id = typed 1 frame id
@@ -497,7 +497,7 @@ first10 =
     ∷ record {
       says = "an entry, and its element";
       got = listedValues (lookup x 3 (ascii "vel")) ++ elementValues (element x 3 (ascii "vel") 0);
-      expected = 3 ∷ 1 ∷ 673 ∷ 1 ∷ 1 ∷ 1 ∷ 0 ∷ 1 ∷ 71 ∷ [];
+      expected = 3 ∷ 1 ∷ 705 ∷ 1 ∷ 1 ∷ 1 ∷ 0 ∷ 1 ∷ 71 ∷ [];
     }
     ∷ record {
       says = "42 in a frame with entries and in one without, 41, 40";
@@ -526,6 +526,126 @@ first10 =
       got = map (λ place. appendTest (emptied place blank) sheetA) (indexPlace ∷ namelistPlace ∷ [])
           ++ map (λ place. appendTest (inVersion version21 (emptied place blank)) sheetA) (indexPlace ∷ namelistPlace ∷ []);
       expected = 20 ∷ 20 ∷ 21 ∷ 21 ∷ [];
+    }
+    ∷ []
+
+-- a row of bytes, M 1
+abbrev pub bytesRow : String → List ℕ → Row
+bytesRow name bytes = record { name = ascii name; n = length bytes; m = 1; kind = 1; body = bytes }
+
+-- the sheet with these rows
+unfoldable pub tableRows : List Row → List ℕ
+tableRows [] = []
+tableRows (r ∷ rs) = tableRow (r .n) (r .m) (r .kind) (r .name) ++ tableRows rs
+
+unfoldable pub bodiesOf : List Row → List ℕ
+bodiesOf [] = []
+bodiesOf (r ∷ rs) = r .name ++ r .body ++ bodiesOf rs
+
+unfoldable pub sheetFrom : List Row → List ℕ
+sheetFrom rs = leBytes 4 (length rs) ++ tableRows rs ++ bodiesOf rs
+
+-- where the listed chunks lie
+unfoldable pub locations : List ℕ → List ℕ
+locations img = map (λ e. e .location) (entriesOf img)
+
+-- the number of an append of these rows, then what it leaves: where the blocks lie, how large they are, and all chunks
+unfoldable pub grownBy : List Row → List ℕ → List ℕ
+grownBy rs img = let x : List ℕ = appended img (sheetFrom rs) 1000 in appendTest img (sheetFrom rs) ∷ blocks x ++ locations x
+
+-- n bytes that are not zero
+abbrev pub sevens : ℕ → List ℕ
+sevens n = replicate n 7
+
+-- an image without a slot and a segment
+unfoldable pub without : ℕ → List ℕ
+without len = stored (freshIn len) indexPlace (leBytes 8 256 ++ leBytes 8 0 ++ leBytes 8 256 ++ leBytes 8 0)
+
+-- an image as it was after A and B when chunks and blocks started at multiples of 8: chunks at 384, 400 and 416, the index at 424
+unfoldable pub older : ℕ → List ℕ
+older len =
+    let probe : ℕ → ℕ → Entry = λ frame at. record { frame = frame; n = 3; location = at; m = 1; id = 0; kind = 9; flags = 0 } in
+    let heater : Entry = record { frame = 1; n = 1; location = 416; m = 1; id = 1; kind = 1; flags = 0 } in
+    over (over (over (stored (freshIn len) indexPlace (leBytes 8 424 ++ leBytes 8 4)) 320 (flat (ascii "probe" ∷ ascii "heater" ∷ [])))
+    384 (readings ++ zeros 4 ++ readings ++ zeros 4 ++ 80 ∷ [])) 424 (indexBytes (probe 0 384 ∷ probe 1 400 ∷ heater ∷ []))
+
+-- chunks and blocks on multiples of 64
+unfoldable pub starts : List Case
+starts =
+    let a : List ℕ = appended (freshIn 1024) sheetA 23 in
+    let one : List ℕ = created (sevens 448) [] [] 0 1 1 in
+    let dirty : List ℕ = created (sevens 1024) [] [] 0 2 1 in
+    let empty : List Row = bytesRow "probe" [] ∷ [] in
+    let byte : List Row = bytesRow "probe" (1 ∷ []) ∷ [] in
+    let two : List Row = bytesRow "a" (1 ∷ []) ∷ bytesRow "b" [] ∷ [] in
+    record {
+      says = "sheets A and B: chunks at 384, 448 and 512";
+      got = locations (appended a sheetB 43);
+      expected = 384 ∷ 448 ∷ 512 ∷ [];
+    }
+    ∷ record {
+      says = "sheet A fits in 400 bytes, as 29 rounds to 8; in 399: 29";
+      got = map (λ len. appendTest (freshIn len) sheetA) (399 ∷ 400 ∷ []);
+      expected = 29 ∷ 0 ∷ [];
+    }
+    ∷ record {
+      says = "an empty row behind a chunk from 384 to 396: 29 in 420 and in 447 bytes, at 448 in 448";
+      got = map (λ len. appendTest (appended (freshIn len) sheetA 23) (sheetFrom empty)) (420 ∷ 447 ∷ 448 ∷ [])
+          ++ locations (appended (appended (freshIn 448) sheetA 23) (sheetFrom empty) 1000);
+      expected = 29 ∷ 29 ∷ 0 ∷ 384 ∷ 448 ∷ [];
+    }
+    ∷ record {
+      says = "a row of a byte and an empty one: 29 in 400 and in 447 bytes, at 384 and 448 in 448";
+      got = map (λ len. appendTest (freshIn len) (sheetFrom two)) (400 ∷ 447 ∷ 448 ∷ []) ++ locations (appended (freshIn 448) (sheetFrom two) 1000);
+      expected = 29 ∷ 29 ∷ 0 ∷ 384 ∷ 448 ∷ [];
+    }
+    ∷ record {
+      says = "behind a byte at 448 two empty rows and a byte at 512; the index at 576";
+      got = grownBy (bytesRow "a" (1 ∷ []) ∷ bytesRow "b" [] ∷ bytesRow "c" [] ∷ bytesRow "d" (2 ∷ []) ∷ []) a;
+      expected = 0 ∷ 576 ∷ 8 ∷ 320 ∷ 1 ∷ 0 ∷ 2 ∷ 5 ∷ 5 ∷ 384 ∷ 448 ∷ 512 ∷ 512 ∷ 512 ∷ [];
+    }
+    ∷ record {
+      says = "1 slot: 52 in 383 bytes, names at 320 in 384";
+      got = createdIn 1 1 383 ∷ blocks (madeIn 1 1 384);
+      expected = 52 ∷ 256 ∷ 1 ∷ 320 ∷ 1 ∷ 0 ∷ 0 ∷ 0 ∷ 0 ∷ [];
+    }
+    ∷ record {
+      says = "its blocks are zero, the 32 bytes between them and those behind are kept";
+      got = drop 256 one;
+      expected = zeros 32 ++ sevens 32 ++ zeros 64 ++ sevens 64;
+    }
+    ∷ record {
+      says = "no word of a gap is stored: the counts stay, and bytes of gaps";
+      got = stepCounts dirty sheetA ++ drop 384 (appended (appended dirty sheetA 23) sheetB 43);
+      expected = 8 ∷ 8 ∷ 2 ∷ 0 ∷ 1 ∷ 0 ∷ 4 ∷ 23
+          ∷ readings ++ zeros 4 ++ sevens 48 ++ readings ++ zeros 4 ++ sevens 48 ++ 80 ∷ zeros 7 ++ sevens 56
+          ++ drop 576 (appended (appended (freshIn 704) sheetA 23) sheetB 43) ++ sevens 320;
+    }
+    ∷ record {
+      says = "both blocks move: a byte at 256, names at 320, the index at 448; 29 in 511 bytes";
+      got = grownBy byte (without 512) ++ appendTest (without 511) (sheetFrom byte) ∷ [];
+      expected = 0 ∷ 448 ∷ 2 ∷ 320 ∷ 2 ∷ 0 ∷ 1 ∷ 1 ∷ 1 ∷ 256 ∷ 29 ∷ [];
+    }
+    ∷ record {
+      says = "an older image reads as before, its end of use is 576";
+      got = blocks (older 1024) ++ locations (older 1024) ++ endIn (older 1024) ∷ elementValues (element (older 1024) 1 (ascii "heater") 0);
+      expected = 424 ∷ 4 ∷ 320 ∷ 1 ∷ 0 ∷ 2 ∷ 2 ∷ 3 ∷ 384 ∷ 400 ∷ 416 ∷ 576 ∷ 1 ∷ 80 ∷ [];
+    }
+    ∷ record {
+      says = "and grows: its blocks stay, on multiples of 8, where they have room, or move to one of 64";
+      got = grownBy byte (older 1024) ++ grownBy two (older 1024);
+      expected = 0 ∷ 424 ∷ 4 ∷ 320 ∷ 1 ∷ 0 ∷ 3 ∷ 2 ∷ 4 ∷ 384 ∷ 400 ∷ 416 ∷ 576
+          ∷ 0 ∷ 640 ∷ 8 ∷ 320 ∷ 1 ∷ 0 ∷ 3 ∷ 4 ∷ 5 ∷ 384 ∷ 400 ∷ 416 ∷ 576 ∷ 640 ∷ [];
+    }
+    ∷ record {
+      says = "in 583 bytes: 29, in 584 it takes a byte";
+      got = map (λ len. appendTest (older len) (sheetFrom byte)) (583 ∷ 584 ∷ []);
+      expected = 29 ∷ 0 ∷ [];
+    }
+    ∷ record {
+      says = "21 asks for multiples of 8 as before";
+      got = map (λ at. appendTest (stored (freshIn 1024) indexPlace (leBytes 8 at ++ leBytes 8 1)) sheetA) (256 ∷ 264 ∷ 268 ∷ 288 ∷ []);
+      expected = 0 ∷ 0 ∷ 21 ∷ 0 ∷ [];
     }
     ∷ []
 

@@ -8,7 +8,7 @@ use crate::demand3::{Call, Run};
 use crate::images::{self, get64, put32, put64, put_names, put_slots, sheet, version, Row, Slot};
 use crate::images::{frames_to_ask, segments_for, GREATEST_FRAME, GROWING, V1_0, V2_0, V2_1};
 use crate::library::{Create, Library};
-use crate::old_cases;
+use crate::{old_cases, start_cases};
 use std::ops::Deref;
 
 /// A library, and the version of the images that it is asked about.
@@ -61,7 +61,12 @@ pub fn all() -> Vec<(String, Test)> {
     let both = [(V2_0, "2.0"), (V2_1, "2.1")];
     let old = [(V1_0, "1.0")];
     let every = [&old[..], &both].concat();
-    for (cases, versions) in [(READING, &every[..]), (CASES, &both), (old_cases::CASES, &old)] {
+    for (cases, versions) in [
+        (READING, &every[..]),
+        (CASES, &both),
+        (start_cases::CASES, &both),
+        (old_cases::CASES, &old),
+    ] {
         for &(name, case) in cases {
             for &(version, title) in versions {
                 let test = move |library: &dyn Library| case(&Versioned { library, version });
@@ -82,7 +87,7 @@ pub fn all() -> Vec<(String, Test)> {
 pub const ALL: u64 = u64::MAX;
 
 /// The last one is infinity, next to the NaNs.
-const PROBE: [u8; 12] = [0, 0, 0x80, 0x3F, 0, 0, 0x20, 0xC0, 0, 0, 0x80, 0x7F];
+pub const PROBE: [u8; 12] = [0, 0, 0x80, 0x3F, 0, 0, 0x20, 0xC0, 0, 0, 0x80, 0x7F];
 
 pub fn sheet_a() -> Vec<u8> {
     sheet(&[Row::new(b"probe", 9, 3, 1, &PROBE)])
@@ -93,12 +98,12 @@ pub fn sheet_b() -> Vec<u8> {
 }
 
 /// The fresh image of the worked cases: 2 slots at 256, 1 segment at 320, 384 bytes used.
-fn fresh(l: &Versioned) -> Vec<u8> {
+pub fn fresh(l: &Versioned) -> Vec<u8> {
     l.fresh(1024, 2, 1).unwrap()
 }
 
 /// A row with no data.
-fn nothing(name: &[u8]) -> Vec<u8> {
+pub fn nothing(name: &[u8]) -> Vec<u8> {
     sheet(&[Row::new(name, 1, 0, 1, b"")])
 }
 
@@ -215,7 +220,7 @@ pub fn refused(l: &Versioned, image: &[u8], sheet: &[u8], number: u64) {
 }
 
 /// The append is accepted: no store with limit 0, one with 1, and all of them show the rows' data.
-fn accepted(l: &Versioned, image: &[u8], rows: &[Row]) -> Vec<u8> {
+pub fn accepted(l: &Versioned, image: &[u8], rows: &[Row]) -> Vec<u8> {
     let sheet = sheet(rows);
     let (same, stores) = l.after(image, &sheet, 0);
     let whole = stores.unwrap()[1];
@@ -572,27 +577,27 @@ const CASES: &[Case] = &[
         assert_eq!(stores, Ok([23, 23]));
         assert_eq!(l.listing(&after), "frames 1 names 1 entries 1\n0 0 9 3 1 384\n");
         assert_eq!(l.bytes(&after, 0, b"probe"), Ok(&PROBE[..]));
-        // End of use 400: the next chunk lies there.
+        // End of use 448: the next chunk lies there.
         let (next, _) = l.after(&after, &nothing(b"probe"), ALL);
-        assert_eq!(l.find(&next, 1, b"probe").map(|e| e[2]), Ok(400));
+        assert_eq!(l.find(&next, 1, b"probe").map(|e| e[2]), Ok(448));
     }),
     ("worked: sheet B", |l| {
         let (image, _) = l.after(&fresh(l), &sheet_a(), ALL);
         assert_eq!(sheet_b().len(), 60);
         let (after, stores) = l.after(&image, &sheet_b(), ALL);
         assert_eq!(stores, Ok([43, 43]));
-        assert_eq!([get64(&after, 8), get64(&after, 16)], [424, 4]);
+        assert_eq!([get64(&after, 8), get64(&after, 16)], [576, 4]);
         assert_eq!(
             l.listing(&after),
-            "frames 2 names 2 entries 3\n0 0 9 3 1 384\n1 0 9 3 1 400\n1 1 1 1 1 416\n"
+            "frames 2 names 2 entries 3\n0 0 9 3 1 384\n1 0 9 3 1 448\n1 1 1 1 1 512\n"
         );
         let (next, _) = l.after(&after, &nothing(b"probe"), ALL);
-        assert_eq!(l.find(&next, 2, b"probe").map(|e| e[2]), Ok(552));
+        assert_eq!(l.find(&next, 2, b"probe").map(|e| e[2]), Ok(704));
         let (stopped, _) = l.after(&image, &sheet_b(), 34);
-        assert_eq!([get64(&stopped, 8), get64(&stopped, 16)], [424, 2]);
+        assert_eq!([get64(&stopped, 8), get64(&stopped, 16)], [576, 2]);
         assert_eq!(l.counts(&stopped), Ok([1, 2, 1]));
-        assert_eq!(l.after(&image[..552], &sheet_b(), ALL).1, Ok([43, 43]));
-        assert_eq!(l.after(&image[..551], &sheet_b(), ALL).1, Err(29));
+        assert_eq!(l.after(&image[..704], &sheet_b(), ALL).1, Ok([43, 43]));
+        assert_eq!(l.after(&image[..703], &sheet_b(), ALL).1, Err(29));
     }),
     ("worked: lookups", |l| {
         let (image, _) = l.after(&fresh(l), &sheet_a(), ALL);
@@ -774,10 +779,11 @@ const CASES: &[Case] = &[
     ("the end of use counts empty things", |l| {
         let image = entries(l, 500, &[Slot::bytes(0, 0, 500, 0)]);
         assert_eq!(l.after(&image, &nothing(b"a"), ALL), (image.clone(), Err(29)));
-        let longer = entries(l, 504, &[Slot::bytes(0, 0, 500, 0)]);
+        let longer = entries(l, 512, &[Slot::bytes(0, 0, 500, 0)]);
+        assert_eq!(l.after(&longer[..511], &nothing(b"a"), ALL).1, Err(29));
         let (after, stores) = l.after(&longer, &nothing(b"a"), ALL);
         assert!(stores.is_ok());
-        assert_eq!(l.find(&after, 1, b"a").map(|e| e[2]), Ok(504));
+        assert_eq!(l.find(&after, 1, b"a").map(|e| e[2]), Ok(512));
         let image = l.blank(512, 512, 0, 256, 1);
         assert_eq!(l.after(&image, &nothing(b"a"), ALL).1, Err(29));
     }),
@@ -804,22 +810,24 @@ const CASES: &[Case] = &[
     }),
     ("0 slots and 0 segments become 2", |l| {
         let row = sheet(&[Row::bytes(b"a", b"1")]);
-        let image = l.blank(456, 256, 0, 256, 0);
+        let image = l.blank(512, 256, 0, 256, 0);
         let (after, stores) = l.after(&image, &row, ALL);
         assert_eq!(stores, Ok([34, 34]));
         let header = [8, 16, 24, 32].map(|at| get64(&after, at));
-        assert_eq!(header, [392, 2, 264, 2]);
+        assert_eq!(header, [448, 2, 320, 2]);
+        assert_eq!(l.find(&after, 0, b"a").map(|e| e[2]), Ok(256));
         assert_eq!(l.bytes(&after, 0, b"a"), Ok(&b"1"[..]));
-        assert_eq!(l.after(&image[..455], &row, ALL).1, Err(29));
+        assert_eq!(l.after(&image[..511], &row, ALL).1, Err(29));
     }),
     ("blocks double as often as needed", |l| {
         let rows: Vec<_> =
             (0..60).map(|n| Row::bytes(format!("twelve {n:05}").as_bytes(), &[n])).collect();
         let image = l.fresh(16_384, 1, 1).unwrap();
         let (after, stores) = l.after(&image, &sheet(&rows), ALL);
-        // 60 names of 12 bytes and a zero are 780 bytes: 16 segments. 60 entries: 64 slots.
+        // 60 names of 12 bytes and a zero are 780 bytes: 16 segments. 60 entries: 64 slots. The
+        // chunks lie from 384 on, one byte in each 64.
         assert_eq!([get64(&after, 16), get64(&after, 32)], [64, 16]);
-        assert_eq!([get64(&after, 24), get64(&after, 8)], [352 + 480, 352 + 480 + 1024]);
+        assert_eq!([get64(&after, 24), get64(&after, 8)], [384 + 3840, 384 + 3840 + 1024]);
         assert!(stores.is_ok());
         assert_eq!(l.counts(&after), Ok([1, 60, 60]));
     }),
@@ -1001,12 +1009,12 @@ const CASES: &[Case] = &[
         assert_eq!(create(10, b"", 1, 65_537), 50);
         assert_eq!(create(10, &[b'x'; 64], 65_536, 65_536), 51);
         assert_eq!(create(512, b"a\0", 1, 1), 51);
-        for length in [0, 1, 8, 255, 256, 351] {
+        for length in [0, 1, 8, 255, 256, 351, 352, 383] {
             assert_eq!(create(length, &[b'x'; 63], 1, 1), 52);
         }
-        assert_eq!(create(352, &[b'x'; 63], 1, 1), 0);
-        assert_eq!(create(1311, b"", 1, 0), 52);
-        assert_eq!(create(1312, b"", 1, 0), 0);
+        assert_eq!(create(384, &[b'x'; 63], 1, 1), 0);
+        assert_eq!(create(1343, b"", 1, 0), 52);
+        assert_eq!(create(1344, b"", 1, 0), 0);
         assert_eq!(create(16_703, b"", 0, 1), 52);
         assert_eq!(create(16_704, b"", 0, 1), 0);
         assert_eq!(create(4096, b"", 0, 0), 52);
@@ -1020,21 +1028,24 @@ const CASES: &[Case] = &[
         assert_eq!(create(512, b"", 1, 1 << 58), 50);
     }),
     ("create, every byte: 0 slots are 512, 0 segments 16, each by itself", |l| {
+        // The slots end, the names start, the segments end; gap bytes are kept.
         let units = [
-            ((0, 0), (512, 16), 17_664),
-            ((0, 1), (512, 1), 16_704),
-            ((3, 0), (3, 16), 1376),
+            ((0, 0), (512, 16), [16_640, 16_640, 17_664]),
+            ((0, 1), (512, 1), [16_640, 16_640, 16_704]),
+            ((3, 0), (3, 16), [352, 384, 1408]),
+            ((1, 2), (1, 2), [288, 320, 448]),
             // What 0 and 0 were before.
-            ((64, 16), (64, 16), 3328),
-            ((64, 0), (64, 16), 3328),
+            ((64, 16), (64, 16), [2304, 2304, 3328]),
+            ((64, 0), (64, 16), [2304, 2304, 3328]),
         ];
-        for ((slots, segments), made, end) in units {
+        for ((slots, segments), made, [index_end, names, end]) in units {
             let mut expected = vec![7; 17_700];
-            expected[..end].fill(0);
+            expected[..index_end].fill(0);
+            expected[names..end].fill(0);
             expected[..8].copy_from_slice(&[0xDF, 0x65, 0xDF, 0x65, 0xDF, 0x65, 0xDF, 0x65]);
             put64(&mut expected, 8, 256);
             put64(&mut expected, 16, made.0);
-            put64(&mut expected, 24, 256 + 32 * made.0);
+            put64(&mut expected, 24, names as u64);
             put64(&mut expected, 32, made.1);
             expected[40..51].copy_from_slice(b"\x04\x03\x02\x01\x01\0\x02\0app");
             expected[112..115].copy_from_slice(b"sch");
@@ -1190,7 +1201,7 @@ const CASES: &[Case] = &[
         assert_eq!(stores, Ok([4 + 8 + 1 + 4; 2]));
         assert_eq!(
             l.listing(&after),
-            "frames 4294967295 names 1 entries 2\n4294967293 0 1 4 1 384\n4294967294 0 1 1 1 392\n"
+            "frames 4294967295 names 1 entries 2\n4294967293 0 1 4 1 384\n4294967294 0 1 1 1 448\n"
         );
         assert_eq!(l.after(&after, &row, ALL), (after.clone(), Err(31)));
         for limit in 0..17 {
@@ -1407,7 +1418,7 @@ const CASES: &[Case] = &[
         for (kind, nans) in NANS {
             let row = floats(b"a", kind, &nans);
             let slot = Slot { kind, ..Slot::bytes(0, 0, 384, 8) };
-            let mut image = entries(l, 1024, &[slot]);
+            let mut image = entries(l, 2048, &[slot]);
             image[384..][..row.data.len()].copy_from_slice(&row.data);
             assert_eq!(
                 l.listing(&image),
@@ -1458,7 +1469,7 @@ const CASES: &[Case] = &[
         // Data by row, new ids by row, entries by id.
         assert_eq!(
             l.listing(&after),
-            "frames 2 names 3 entries 4\n0 0 1 0 1 384\n1 0 1 3 1 392\n1 1 1 2 1 384\n1 2 1 1 1 400\n"
+            "frames 2 names 3 entries 4\n0 0 1 0 1 384\n1 0 1 3 1 448\n1 1 1 2 1 384\n1 2 1 1 1 512\n"
         );
         let names: Vec<_> = (0..3).map(|n| l.nth_name(&after, n).unwrap()).collect();
         assert_eq!(names, [b"m", b"z", b"a"]);
@@ -1491,7 +1502,7 @@ const CASES: &[Case] = &[
         image[256 + 31] = 0xA5;
         let (after, _) = l.after(&image, &sheet_b(), ALL);
         assert_eq!(l.find(&after, 0, b"probe"), Ok([0, 3, 384, 1, 0, 9, 0xA5]));
-        assert_eq!(l.find(&after, 1, b"probe"), Ok([1, 3, 400, 1, 0, 9, 0]));
+        assert_eq!(l.find(&after, 1, b"probe"), Ok([1, 3, 448, 1, 0, 9, 0]));
     }),
     ("create writes all of the header and keeps what lies behind", |l| {
         let mut image: Vec<u8> = (0..1024).map(|n| n as u8 | 1).collect();

@@ -2,7 +2,9 @@
 
 use crate::ask::Ask;
 use crate::check::hex;
-use crate::images::{frames_to_ask, holds_nan, lawful_rows, size, Row, GREATEST_FRAME, V1_0};
+use crate::images::{
+    frames_to_ask, get64, holds_nan, lawful_rows, size, Row, GREATEST_FRAME, V1_0,
+};
 use crate::library::Library;
 use std::collections::BTreeMap;
 
@@ -25,15 +27,17 @@ impl Call {
         self.rows.iter().flatten().any(Row::holds_nan)
     }
 
-    /// What can refuse it in an image that opens: its version, that no frame is left, the sheet, or
-    /// that the image is no place for it.
-    fn refusals(&self, full: bool) -> &'static [u64] {
+    /// What refuses it in an image that opens, for certain: its version, where its blocks are, that
+    /// no frame is left, or the sheet. The last ones may: that the image is no place for it.
+    fn refusals(&self, image: &[u8], full: bool) -> (bool, &'static [u64]) {
+        let odd = [8, 24].iter().any(|&at| !get64(image, at).is_multiple_of(8));
         match self.rows {
-            _ if self.version == V1_0 => &[20],
-            _ if full => &[21, 31],
-            None => &[21, 22, 23, 24, 25, 26, 27],
-            Some(_) if self.holds_nan() => &[21, 30],
-            Some(_) => &[21, 28, 29],
+            _ if self.version == V1_0 => (true, &[20]),
+            _ if odd => (true, &[21]),
+            _ if full => (true, &[31]),
+            None => (true, &[22, 23, 24, 25, 26, 27]),
+            Some(_) if self.holds_nan() => (true, &[30]),
+            Some(_) => (false, &[28, 29]),
         }
     }
 }
@@ -96,9 +100,7 @@ impl<'l> Run<'l> {
         let before = image.clone();
         let stores = self.library.put(image, &call.sheet, call.limit);
         self.entries(image)?;
-        let full = self.count > GREATEST_FRAME;
-        let never = full || call.version == V1_0 || call.holds_nan();
-        let refusals = call.refusals(full);
+        let (never, refusals) = call.refusals(&before, self.count > GREATEST_FRAME);
         let ([done, whole], rows) = match (stores, &call.rows) {
             (Ok(stores), Some(rows)) if !never => (stores, rows),
             (Err(_), _) if *image != before => return Err("a refusal wrote".into()),
@@ -124,10 +126,15 @@ impl<'l> Run<'l> {
             }
             last = next;
         }
-        if last == *image {
-            Ok(())
-        } else {
-            Err("a stop leaves other bytes than the limit".into())
+        if last != *image {
+            return Err("a stop leaves other bytes than the limit".into());
+        }
+        // What moves lies on a multiple of 64 then, wherever it was.
+        match [8, 24].map(|at| [&before, image].map(|image| get64(image, at))) {
+            blocks if blocks.iter().all(|[old, new]| new == old || new.is_multiple_of(64)) => {
+                Ok(())
+            }
+            blocks => Err(format!("index and names moved off 64: {blocks:?}")),
         }
     }
 
@@ -189,7 +196,7 @@ impl<'l> Run<'l> {
         self.names.iter().map(find).collect()
     }
 
-    /// The new frame, complete and exactly as requested.
+    /// The new frame, complete and exactly as requested, on multiples of 64.
     fn requested(&self, image: &[u8], rows: &[Row]) -> Result<Frame, String> {
         let number = self.count;
         let frame = self.look(image, number)?;
@@ -199,7 +206,8 @@ impl<'l> Run<'l> {
                 (None, None) => true,
                 (Some(row), Some((entry, bytes))) => {
                     let asked = [number, row.n, row.m.into(), row.kind.into()];
-                    [entry[0], entry[1], entry[3], entry[5]] == asked && *bytes == row.data
+                    let same = [entry[0], entry[1], entry[3], entry[5]] == asked;
+                    same && *bytes == row.data && entry[2].is_multiple_of(64)
                 }
                 _ => false,
             };

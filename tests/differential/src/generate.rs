@@ -1,11 +1,14 @@
-//! Random images and sheets: lawful, odd and damaged.
+//! Random images and sheets: lawful, odd and damaged; made as the library makes them now, and as
+//! it did before W-211.
 
+use crate::ask::Ask;
 use crate::images::{
     blank, get64, is_nan, last_type, put16, put32, put64, put_names, put_slots, room, segments_for,
     sheet, size, version, Row, Slot, FLOATS, GREATEST_FRAME, GROWING, SEGMENT, V1_0, V2_1,
     VERSIONS,
 };
 use crate::library::{Create, Library, Reference};
+use crate::model::EARLIER;
 use crate::random::Rng;
 use crate::reference;
 
@@ -162,9 +165,37 @@ pub fn fresh(rng: &mut Rng) -> Vec<u8> {
 
 /// The same, of a version that takes appends.
 pub fn growing(rng: &mut Rng) -> Vec<u8> {
+    made(rng, Maker::Now)
+}
+
+/// Who makes an image by create and appends.
+#[derive(Clone, Copy)]
+enum Maker {
+    Now,
+    /// The library before W-211, with all starts on multiples of 8.
+    Earlier,
+}
+
+impl Maker {
+    fn library(self) -> &'static dyn Library {
+        match self {
+            Maker::Now => &Reference,
+            Maker::Earlier => &EARLIER,
+        }
+    }
+
+    fn alignment(self) -> usize {
+        match self {
+            Maker::Now => 64,
+            Maker::Earlier => 8,
+        }
+    }
+}
+
+fn made(rng: &mut Rng, by: Maker) -> Vec<u8> {
     let slots = rng.pick(&[1, 1, 2, 3, 4, 7, 16]);
     let segments = rng.pick(&[1, 1, 2, 3, 5]);
-    let used = 256 + 32 * slots + 64 * segments;
+    let used = (256_usize + 32 * slots).next_multiple_of(by.alignment()) + 64 * segments;
     let behind = rng.pick(&[0, 8, 100, 500, 1000, 3000]) + rng.below(64);
     let mut image = rng.bytes(used + behind);
     let texts = [rng.below(64), rng.below(64)].map(|length| vec![b't'; length]);
@@ -175,7 +206,7 @@ pub fn growing(rng: &mut Rng) -> Vec<u8> {
         slots: slots as u64,
         segments: segments as u64,
     };
-    assert_eq!(Reference.create(&mut image, request), 0);
+    assert_eq!(by.library().create(&mut image, request), 0);
     put32(&mut image, 44, rng.pick(&GROWING));
     image
 }
@@ -337,18 +368,56 @@ pub fn grown(rng: &mut Rng) -> (Vec<u8>, Vec<Vec<u8>>) {
     let mut image = growing(rng);
     let room = rng.pick(&[1000, 3000]);
     image.extend(rng.bytes(room));
+    let known = grow(rng, &mut image, Maker::Now);
+    (image, known)
+}
+
+/// An image as the library made it before W-211, and the names in it: by appends, or by create
+/// alone. Behind what is used there is much room, or not even as much as up to a multiple of 64.
+pub fn older(rng: &mut Rng) -> (Vec<u8>, Vec<Vec<u8>>) {
+    let mut image = made(rng, Maker::Earlier);
+    let mut known = Vec::new();
+    let room = rng.pick(&[100, 1000, 3000]);
+    image.extend(rng.bytes(room));
+    if rng.chance(85) {
+        known = grow(rng, &mut image, Maker::Earlier);
+    }
+    if rng.chance(25) {
+        let used = shortest(&image, |part| reference::open(part).is_ok());
+        image.truncate(used + rng.below(80));
+    }
+    (image, known)
+}
+
+/// How long the shortest part of an image is for which this holds, as it does for all longer ones.
+pub fn shortest(image: &[u8], holds: impl Fn(&[u8]) -> bool) -> usize {
+    let (mut least, mut most) = (0, image.len());
+    while least < most {
+        let middle = (least + most) / 2;
+        if holds(&image[..middle]) {
+            most = middle;
+        } else {
+            least = middle + 1;
+        }
+    }
+    most
+}
+
+/// One to three appends, whole or stopped, and the names of their rows.
+fn grow(rng: &mut Rng, image: &mut [u8], by: Maker) -> Vec<Vec<u8>> {
     let mut known = Vec::new();
     for _ in 0..rng.between(1, 3) {
-        let mut rows = rows(rng, version(&image), &known);
+        let mut rows = rows(rng, version(image), &known);
         rows.truncate(3);
+        let limit = if rng.chance(30) { limit(rng) } else { u64::MAX };
         // Some are refused: 2.0 takes no character.
-        if reference::append(&mut image, &sheet(&rows), u64::MAX).is_ok() {
+        if by.library().put(image, &sheet(&rows), limit).is_ok() {
             known.extend(rows.into_iter().map(|row| row.name));
         }
     }
     known.sort();
     known.dedup();
-    (image, known)
+    known
 }
 
 /// The same, with frames left out at the start or in the middle, some or as many as put the last one
@@ -636,7 +705,7 @@ pub fn written_image(
     // An entry for which there is no slot lies between the blocks.
     let list = index + 32 * slots.max(keys.len()) + rng.pick(&[0, 0, 0, 8, 5]);
     let data = list + SEGMENT * segments;
-    let length = data + rng.between(16, 200);
+    let length = data + rng.between(16, 300);
     let mut image = blank(length, index as u64, slots as u64, list as u64, segments as u64);
     rng.fill(&mut image[data..]);
     put32(&mut image, 44, version);

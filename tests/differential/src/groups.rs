@@ -1,5 +1,6 @@
 //! The random groups of the driver. Each is a round that a seed repeats.
 
+use crate::ask::Ask;
 use crate::check::{names_of, Check};
 use crate::demand3::{Call, Run};
 use crate::generate::{self, Layout};
@@ -46,6 +47,9 @@ pub const GROUPS: &[Group] = &[
     group("names in segments", 8000, segments),
     group("entries in the order of writing", 8000, written),
     group("a run of appends to 1.0, word for word", 1000, old_runs),
+    group("slices about as long as an append needs", 2000, just_long),
+    group("appends to older images", 2000, older),
+    group("a run of appends to older images, word for word", 500, older_runs),
 ];
 
 /// Every call once, on whatever the image is.
@@ -111,11 +115,13 @@ fn create(check: &mut Check, rng: &mut Rng) {
     };
     let (slots, segments) = (count(rng), count(rng));
     let or = |count: u64, default: u64| if count == 0 { default } else { count };
-    let need = 256 + 32 * or(slots.min(200), 512) + 64 * or(segments.min(200), 16);
-    let length = match rng.below(4) {
-        0 => rng.below(need as usize + 1),
-        1 => need as usize,
-        _ => need as usize + rng.below(200),
+    let index_end = 256 + 32 * or(slots.min(200), 512);
+    let need = (index_end.next_multiple_of(64) + 64 * or(segments.min(200), 16)) as usize;
+    let length = match rng.below(6) {
+        0 => rng.below(need + 1),
+        1 => need - rng.below(65),
+        2 => need,
+        _ => need + rng.below(200),
     };
     check.load(&rng.bytes(length));
     let schema_version = rng.number() as u32;
@@ -143,11 +149,13 @@ fn fresh(check: &mut Check, rng: &mut Rng) {
 
 /// An image that opens, mostly of a version that takes appends.
 fn start(rng: &mut Rng) -> (Vec<u8>, Vec<Vec<u8>>) {
-    if rng.chance(40) {
-        (generate::fresh(rng), Vec::new())
-    } else {
-        let version = generate::some_version(rng, 10);
-        start_of(rng, version)
+    match rng.below(10) {
+        0..4 => (generate::fresh(rng), Vec::new()),
+        4 => generate::older(rng),
+        _ => {
+            let version = generate::some_version(rng, 10);
+            start_of(rng, version)
+        }
     }
 }
 
@@ -161,8 +169,18 @@ fn start_of(rng: &mut Rng, version: u32) -> (Vec<u8>, Vec<Vec<u8>>) {
 }
 
 fn runs(check: &mut Check, rng: &mut Rng) {
-    let (image, mut known) = start(rng);
+    let start = start(rng);
+    appends(check, rng, start);
+}
+
+fn older(check: &mut Check, rng: &mut Rng) {
+    let start = generate::older(rng);
+    appends(check, rng, start);
+}
+
+fn appends(check: &mut Check, rng: &mut Rng, (image, mut known): (Vec<u8>, Vec<Vec<u8>>)) {
     check.load(&image);
+    check.read_all(&known);
     for _ in 0..rng.between(2, 8) {
         let rows = generate::rows(rng, version(&image), &known);
         let limit = generate::limit(rng);
@@ -177,6 +195,33 @@ fn runs(check: &mut Check, rng: &mut Rng) {
         }
         known.truncate(12);
         check.read_all(&known);
+    }
+}
+
+/// An append into as many bytes as it needs, one less, and those about the multiples of 64.
+fn just_long(check: &mut Check, rng: &mut Rng) {
+    let (mut image, known) = match rng.below(4) {
+        0 => (generate::growing(rng), Vec::new()),
+        1 => generate::grown(rng),
+        2 => generate::older(rng),
+        _ => start(rng),
+    };
+    image.extend(rng.bytes(4096));
+    let mut rows = generate::rows(rng, version(&image), &known);
+    rows.truncate(4);
+    let sheet = sheet(&rows);
+    check.load(&image);
+    if check.append(&sheet, 0).is_none() {
+        return;
+    }
+    let needed = generate::shortest(&image, |part| Reference.after(part, &sheet, 0).1.is_ok());
+    let multiple = needed.next_multiple_of(64);
+    let any = needed - rng.below(65);
+    for length in [any, needed - 1, needed, multiple - 1, multiple] {
+        check.load(&image[..length]);
+        check.append(&sheet, generate::limit(rng));
+        check.append(&sheet, u64::MAX);
+        check.read_all(&names_of(&rows));
     }
 }
 
@@ -554,14 +599,14 @@ fn longest(check: &mut Check, _: &mut Rng) {
         let sheet = sheet(&[Row::bytes(b"c", &[9; 505])]);
         for (version, limit) in [(V1_0, 3), (V2_1, 3), (V2_1, u64::MAX), (V2_1, u64::MAX)] {
             for image in [&mut *theirs, &mut *ours].into_iter().filter(|_| limit == 3) {
-                // Both blocks near the end, a chunk up to it, an entry from far below.
+                // Both blocks near the end, a chunk shortly before it, one from far below.
                 crate::images::header(image, index as u64, 4, names as u64, 2);
                 put32(image, 44, version);
                 image[names..names + 128].fill(0);
                 put_names(image, names, [&b"a"[..], b"b"]);
                 let mut slots = [
                     Slot::bytes(0, 0, 256, (index - 256) as u64),
-                    Slot::bytes(0, 1, (LONGEST - 1024) as u64, 512),
+                    Slot::bytes(0, 1, (LONGEST - 1024) as u64, 500),
                 ];
                 if version == V1_0 {
                     slots.reverse();
@@ -655,6 +700,11 @@ fn old_runs(check: &mut Check, rng: &mut Rng) {
     run_from(check, rng, start);
 }
 
+fn older_runs(check: &mut Check, rng: &mut Rng) {
+    let start = generate::older(rng);
+    run_from(check, rng, start);
+}
+
 fn run_from(check: &mut Check, rng: &mut Rng, (mut image, known): (Vec<u8>, Vec<Vec<u8>>)) {
     if rng.chance(25) {
         generate::put_borders(rng, &mut image);
@@ -690,7 +740,7 @@ fn segments(check: &mut Check, rng: &mut Rng) {
     let slots = rng.below(4);
     let names = 256 + 32 * slots;
     let (behind, data) = (names + block.len(), names + block.len() + SEGMENT);
-    let mut image = blank(data + 16, 256, slots as u64, names as u64, count as u64);
+    let mut image = blank(data + 96, 256, slots as u64, names as u64, count as u64);
     put32(&mut image, 44, version);
     image[names..behind].copy_from_slice(&block);
     if rng.chance(30) {

@@ -1,10 +1,10 @@
 //! The differential tests of libdialmoth.a.
 //!
 //! [`reference`] is document 01 in plain Rust; [`library`] puts it and the archive behind one
-//! trait. Against the paper itself: [`cases`] and [`old_cases`], worked out by hand, [`files`] of
-//! the real GSD library and of 1.0, and [`demand3`], the words of "A run of appends". Against each
-//! other: [`check`] makes each call on both, and [`groups`] feed it what [`generate`] and
-//! [`images`] make.
+//! trait. Against the paper itself: [`cases`], [`start_cases`] and [`old_cases`], worked out by
+//! hand, [`files`] of the real GSD library and of 1.0, and [`demand3`], the words of "A run of
+//! appends". Against each other: [`check`] makes each call on both, and [`groups`] feed it what
+//! [`generate`] and [`images`] make.
 
 pub mod ask;
 pub mod cases;
@@ -20,6 +20,7 @@ pub mod model;
 pub mod old_cases;
 pub mod random;
 pub mod reference;
+pub mod start_cases;
 pub mod suite;
 #[cfg(linked)]
 pub mod wrapper;

@@ -211,11 +211,41 @@ faults! {
     TwentyAfterTwentyNine,
     TwentyNotAtLimitZero,
     TwentyUpgrades,
+    StartsOn8,
+    StartsOn32,
+    StartsOn128,
+    StartsOn8In2_0,
+    StartsOn8InOlderImages,
+    NextMultipleAlways,
+    LengthsRounded,
+    EndOfUseOn8,
+    RowsOn8,
+    EmptyChunkNotRounded,
+    MovedNamesOn8,
+    MovedIndexOn8,
+    GapsStored,
+    FirstGapStored,
+    RowsPaddedTo64,
+    GapsNotIn29,
+    EmptyLastChunkFits,
+    EmptyRowsFit,
+    FinalPositionOn64,
+    TwentyOneBy64,
+    TwentyOneForChunks,
+    OlderBlocksMove,
+    CreateNamesBehindIndex,
+    CreateRoundsSlots,
+    CreateClearsGap,
+    CreateNeedsNoGap,
+    CreateNeedsNextMultiple,
 }
 
 pub struct Model {
     pub fault: Option<Fault>,
 }
+
+/// The library before W-211, which made the older images.
+pub const EARLIER: Model = Model { fault: Some(Fault::StartsOn8) };
 
 type Verdict<T> = Result<T, u64>;
 
@@ -249,8 +279,18 @@ struct Format {
 const FLOAT: Format = Format { size: 4, exponent: 8, fraction: 23 };
 const DOUBLE: Format = Format { size: 8, exponent: 11, fraction: 52 };
 
-fn round_up(place: u128) -> u128 {
-    place.div_ceil(8) * 8
+fn round_up(place: u128, unit: u128) -> u128 {
+    place.div_ceil(unit) * unit
+}
+
+/// "The end of use, and each start in steps 2, 3 and 5."
+#[derive(Clone, Copy)]
+enum Start {
+    EndOfUse,
+    Row,
+    EmptyRow,
+    Names,
+    Index,
 }
 
 #[derive(Clone, Copy)]
@@ -1144,6 +1184,61 @@ impl Model {
         }
     }
 
+    /// "Index or name location not a multiple of 8", and "21 still says 8".
+    fn odd_places(&self, view: &View) -> bool {
+        let unit = if self.has(Fault::TwentyOneBy64) { 64 } else { 8 };
+        let odd = |place: u128, count: u128| {
+            let excused = self.has(Fault::EmptyBlocksMayBeOdd) && count == 0;
+            !place.is_multiple_of(unit) && !excused
+        };
+        let odd_chunk = |entry: &Listed| !entry.location.is_multiple_of(64);
+        let chunks = self.has(Fault::TwentyOneForChunks) && view.entries.iter().any(odd_chunk);
+        odd(view.index, view.slots) || odd(view.names_at, view.segments) || chunks
+    }
+
+    /// "The greatest of 256, both blocks' ends and all listed chunks' ends", not rounded.
+    fn end_of_use(&self, view: &View) -> u128 {
+        let mut end = 256.max(view.index + 32 * view.slots).max(view.names_at + 64 * view.segments);
+        for entry in &view.entries {
+            if entry.length() > 0 || !self.has(Fault::EndOfUseSkipsEmptyChunks) {
+                end = end.max(entry.location + entry.length());
+            }
+        }
+        end
+    }
+
+    /// "Now the end of use, and each start in steps 2, 3 and 5, is rounded up to 64."
+    fn start(&self, position: u128, of: Start, view: &View) -> u128 {
+        let older = [view.index, view.names_at].iter().any(|place| !place.is_multiple_of(64));
+        let unit = match (self.fault, of) {
+            (Some(Fault::EndOfUseNotRounded), Start::EndOfUse) => 1,
+            (Some(Fault::StartsOn8 | Fault::LengthsRounded), _) => 8,
+            (Some(Fault::StartsOn8In2_0), _) if view.version == VERSION_2_0 => 8,
+            (Some(Fault::StartsOn8InOlderImages), _) if older => 8,
+            (Some(Fault::EndOfUseOn8), Start::EndOfUse) => 8,
+            (Some(Fault::RowsOn8), Start::Row | Start::EmptyRow) => 8,
+            (Some(Fault::EmptyChunkNotRounded), Start::EmptyRow) => 8,
+            (Some(Fault::MovedNamesOn8), Start::Names) => 8,
+            (Some(Fault::MovedIndexOn8), Start::Index) => 8,
+            (Some(Fault::StartsOn32), _) => 32,
+            (Some(Fault::StartsOn128), _) => 128,
+            (Some(Fault::NextMultipleAlways), _) => return (position / 64 + 1) * 64,
+            _ => 64,
+        };
+        round_up(position, unit)
+    }
+
+    /// "Words in the gaps aren't stored, so counts stay."
+    fn gap(&self, from: u128, to: u128, first: bool) -> Vec<Store> {
+        match self.fault {
+            Some(Fault::FirstGapStored) if !first => Vec::new(),
+            Some(Fault::GapsStored | Fault::FirstGapStored) => {
+                (from..to).step_by(8).map(|at| (at, [0; 8])).collect()
+            }
+            _ => Vec::new(),
+        }
+    }
+
     /// The frame of an append's entries.
     fn new_frame(&self, view: &View) -> u128 {
         if self.has(Fault::AppendFillsGap) {
@@ -1171,11 +1266,7 @@ impl Model {
         if full && self.has(Fault::ThirtyOneBeforeTwentyOne) {
             return Err(31);
         }
-        let odd = |place: u128, count: u128| {
-            let excused = self.has(Fault::EmptyBlocksMayBeOdd) && count == 0;
-            !place.is_multiple_of(8) && !excused
-        };
-        if odd(view.index, view.slots) || odd(view.names_at, view.segments) {
+        if self.odd_places(&view) {
             return Err(21);
         }
         if old && self.has(Fault::TwentyAfterTwentyOne) {
@@ -1226,17 +1317,8 @@ impl Model {
         let all_names = [&old_names[..], &new_names].concat();
         let id_of = |name: &[u8]| all_names.iter().position(|&listed| listed == name).unwrap();
 
-        let (index_end, names_end) =
-            (view.index + 32 * view.slots, view.names_at + 64 * view.segments);
-        let mut end_of_use = 256.max(index_end).max(names_end);
-        for entry in &view.entries {
-            if entry.length() > 0 || !self.has(Fault::EndOfUseSkipsEmptyChunks) {
-                end_of_use = end_of_use.max(entry.location + entry.length());
-            }
-        }
-        if !self.has(Fault::EndOfUseNotRounded) || end_of_use + 8 > image.len() as u128 {
-            end_of_use = round_up(end_of_use);
-        }
+        let used = self.end_of_use(&view);
+        let end_of_use = self.start(used, Start::EndOfUse, &view);
         let mut stores: Vec<Store> = Vec::new();
         let word_at = |bytes: &[u8], at: usize| {
             let mut word = [0; 8];
@@ -1250,11 +1332,21 @@ impl Model {
         let mut position = end_of_use;
         let mut unpadded = position;
         let mut locations = Vec::new();
-        for row in &rows {
-            let empty_first = row.data.is_empty() && self.has(Fault::EmptyChunkAtEndOfUse);
-            locations.push(if empty_first { end_of_use } else { position });
-            unpadded = position + row.data.len() as u128;
-            position = round_up(unpadded);
+        let mut gaps = Vec::new();
+        for (n, row) in rows.iter().enumerate() {
+            let (first, empty) = (n == 0, row.data.is_empty());
+            let of = if empty { Start::EmptyRow } else { Start::Row };
+            let location = if first { end_of_use } else { self.start(position, of, &view) };
+            let from = if first { round_up(used, 8) } else { position };
+            gaps.push(self.gap(from, location, first));
+            let empty_first = empty && self.has(Fault::EmptyChunkAtEndOfUse);
+            locations.push(if empty_first { end_of_use } else { location });
+            if !empty || !self.has(Fault::EmptyLastChunkFits) {
+                let length = row.data.len() as u128;
+                unpadded = location + length;
+                let whole = self.has(Fault::RowsPaddedTo64) || self.has(Fault::LengthsRounded);
+                position = location + round_up(length, if whole { 64 } else { 8 });
+            }
         }
         let old_list = &image[view.names_at as usize..][..view.list_end];
         let new_bytes: usize = new_names.iter().map(|name| name.len() + 1).sum();
@@ -1271,21 +1363,35 @@ impl Model {
             }
             count
         };
-        let new_name_block = (needed > 64 * view.segments).then(|| {
-            let block = (position, doubled(view.segments, 64, needed));
-            position = block.0 + 64 * block.1;
-            block
+        let must_move = |at: u128| self.has(Fault::OlderBlocksMove) && !at.is_multiple_of(64);
+        let new_name_block = (needed > 64 * view.segments || must_move(view.names_at)).then(|| {
+            let start = self.start(position, Start::Names, &view);
+            gaps.push(self.gap(position, start, false));
+            let count = doubled(view.segments, 64, needed);
+            position = start + 64 * count;
+            (start, count)
         });
         let listed = view.entries.len();
         let needed = 32 * (listed + rows.len()) as u128;
-        let new_index = (needed > 32 * view.slots).then(|| {
-            let block = (position, doubled(view.slots, 32, needed));
-            position = block.0 + 32 * block.1;
-            block
+        let new_index = (needed > 32 * view.slots || must_move(view.index)).then(|| {
+            let start = self.start(position, Start::Index, &view);
+            gaps.push(self.gap(position, start, false));
+            let count = doubled(view.slots, 32, needed);
+            position = start + 32 * count;
+            (start, count)
         });
         let moves = new_name_block.is_some() || new_index.is_some();
-        let last =
-            if self.has(Fault::FinalPositionNotPadded) && !moves { unpadded } else { position };
+        let moved = new_name_block.map_or(0, |block| 64 * block.1)
+            + new_index.map_or(0, |block| 32 * block.1);
+        let data: u128 = rows.iter().map(|row| round_up(row.data.len() as u128, 8)).sum();
+        // "29 still rounds the position after the last chunk or block to 8."
+        let last = match self.fault {
+            Some(Fault::FinalPositionNotPadded) if !moves => unpadded,
+            Some(Fault::FinalPositionOn64) => round_up(position, 64),
+            Some(Fault::GapsNotIn29) => end_of_use + data + moved,
+            Some(Fault::EmptyRowsFit) if !moves && data == 0 => round_up(used, 8),
+            _ => position,
+        };
         if last > image.len() as u128 {
             return Err(29);
         }
@@ -1302,8 +1408,8 @@ impl Model {
         // 1
         let skip = |moved: bool| moved && self.has(Fault::NothingClearedBeforeMove);
         if !self.has(Fault::IndexNotCleared) && !skip(new_index.is_some()) {
-            for at in (view.index + 32 * listed as u128..index_end).step_by(8) {
-                stores.push((at, [0; 8]));
+            for at in (32 * listed as u128..32 * view.slots).step_by(8) {
+                stores.push((view.index + at, [0; 8]));
             }
         }
         if !self.has(Fault::NamesNotCleared) && !skip(new_name_block.is_some()) {
@@ -1313,9 +1419,12 @@ impl Model {
             }
         }
 
-        // 2
+        // 2, "each row padded with zeros to 8".
+        let mut gaps = gaps.into_iter();
         for (row, location) in rows.iter().zip(&locations) {
-            for at in (0..row.data.len()).step_by(8) {
+            stores.extend(gaps.next().unwrap());
+            let unit = if self.has(Fault::RowsPaddedTo64) { 64 } else { 8 };
+            for at in (0..row.data.len().next_multiple_of(unit)).step_by(8) {
                 let mut word = word_at(row.data, at);
                 if self.has(Fault::PaddingKept) {
                     for n in row.data.len().saturating_sub(at)..8 {
@@ -1342,6 +1451,7 @@ impl Model {
         };
         let mut names_at = view.names_at;
         if let Some(block) = new_name_block {
+            stores.extend(gaps.next().unwrap());
             fill(&mut stores, block.0, 64 * block.1 as usize, old_list);
             header(&mut stores, 24, block);
             names_at = block.0;
@@ -1373,6 +1483,7 @@ impl Model {
         // 5
         let mut index = view.index;
         if let Some(block) = new_index {
+            stores.extend(gaps.next().unwrap());
             let mut old = image[view.index as usize..][..32 * listed].to_vec();
             if self.has(Fault::FlagsNotCopied) {
                 old.chunks_mut(32).for_each(|entry| entry[31] = 0);
@@ -1530,18 +1641,33 @@ impl Library for Model {
         let usual_segments = if self.has(Fault::ZeroSegmentsAre512) { 512 } else { 16 };
         let slots = if zero(slots) { usual_slots } else { slots };
         let segments = if zero(segments) { usual_segments } else { segments };
-        let names = 256 + 32 * slots;
-        let end = (names + 64 * segments) as usize;
-        if image.len() < end {
+        let slots =
+            if self.has(Fault::CreateRoundsSlots) { slots.next_multiple_of(2) } else { slots };
+        // "Create rounds the name block and the end so too, gap bytes kept, and 52 follows."
+        let index_end = 256 + 32 * slots;
+        let unit = if self.has(Fault::StartsOn8) { 8 } else { 64 };
+        let straight = self.has(Fault::CreateNamesBehindIndex);
+        let names = if straight { index_end } else { index_end.next_multiple_of(unit) };
+        let end = (names + 64 * segments).next_multiple_of(unit);
+        let needed = match self.fault {
+            Some(Fault::CreateNeedsNoGap) => index_end + 64 * segments,
+            Some(Fault::CreateNeedsNextMultiple) => (end / 64 + 1) * 64,
+            _ => end,
+        };
+        if (image.len() as u64) < needed {
             return 52;
         }
-        let clear = if self.has(Fault::CreateClearsAll) { image.len() } else { end };
-        let reserved = image[176..256].to_vec();
-        for byte in &mut image[..clear] {
+        let before: Vec<u8> = image.iter().copied().take(end as usize).collect();
+        let clear = if self.has(Fault::CreateClearsAll) { image.len() } else { end as usize };
+        for byte in image.iter_mut().take(clear) {
             *byte = 0;
         }
+        if !self.has(Fault::CreateClearsGap) && !self.has(Fault::CreateClearsAll) {
+            let gap = index_end as usize..names as usize;
+            image[gap.clone()].copy_from_slice(&before[gap]);
+        }
         if self.has(Fault::CreateKeepsReserved) {
-            image[176..256].copy_from_slice(&reserved);
+            image[176..256].copy_from_slice(&before[176..256]);
         }
         // "Create makes 2.1."
         let version = if self.has(Fault::CreateMakes2_0) { VERSION_2_0 } else { VERSION_2_1 };
@@ -1585,8 +1711,14 @@ impl Library for Model {
         for (at, word) in stores {
             let at = at as usize;
             if done < limit || limit > 0 && self.has(Fault::AllStoresAtOnce) {
-                changed += u64::from(image[at..at + 8] != word);
-                image[at..at + 8].copy_from_slice(&word);
+                match image.get_mut(at..at + 8) {
+                    Some(place) => {
+                        changed += u64::from(*place != word);
+                        place.copy_from_slice(&word);
+                    }
+                    // Here a builder who errs in 29 strays.
+                    None => assert!(self.fault.is_some(), "a store at {at}"),
+                }
                 done += 1;
             }
         }

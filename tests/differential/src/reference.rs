@@ -1,5 +1,5 @@
-//! Document 01 in plain Rust, with what document 02 has changed of it (W-201 to W-206), written
-//! from the papers alone.
+//! Document 01 in plain Rust, with what document 02 has changed of it (W-201 to W-206 and W-211),
+//! written from the papers alone.
 //!
 //! It is the independent second opinion of the differential tests and the baseline of the
 //! benchmark: a refusal is `Err` with its number, and nothing else is shared with the library.
@@ -13,6 +13,8 @@ const MAGIC: [u8; 8] = [0xDF, 0x65, 0xDF, 0x65, 0xDF, 0x65, 0xDF, 0x65];
 const SLOT: usize = 32;
 const SEGMENT: usize = 64;
 const WORD: usize = 8;
+/// New chunks and blocks start on multiples of it.
+const ALIGNMENT: usize = 64;
 const MOST_NAMES: usize = 1024;
 const MOST_ROWS: usize = 64;
 /// Longest list of slots or segments that create makes.
@@ -529,11 +531,14 @@ pub fn create(
     }
     let slots = if slots == 0 { 512 } else { slots };
     let segments = if segments == 0 { 16 } else { segments };
-    let names = HEADER + SLOT as u64 * slots;
+    let index_end = HEADER + SLOT as u64 * slots;
+    let names = index_end.next_multiple_of(ALIGNMENT as u64);
+    // As long as the alignment, segments end on a multiple of it too.
     let end = (names + SEGMENT as u64 * segments) as usize;
     let fresh = image.get_mut(..end).ok_or(52_u64)?;
 
-    fresh.fill(0);
+    fresh[..index_end as usize].fill(0);
+    fresh[names as usize..].fill(0);
     fresh[..8].copy_from_slice(&MAGIC);
     for (at, number) in [(8, HEADER), (16, slots), (24, names), (32, segments)] {
         fresh[at..at + 8].copy_from_slice(&number.to_le_bytes());
@@ -626,9 +631,10 @@ struct Plan<'s> {
     order: Vec<(u16, usize)>,
 }
 
-/// A block at `start` that has room for `needed` bytes, in place of one that has not.
-fn moved(old: Block, unit: usize, needed: usize, start: usize) -> Option<Block> {
+/// A block behind `position` that has room for `needed` bytes, in place of one that has not.
+fn moved(old: Block, unit: usize, needed: usize, position: usize) -> Option<Block> {
     (needed > unit * old.count).then(|| {
+        let start = position.next_multiple_of(ALIGNMENT);
         let mut count = 2 * old.count.max(1);
         while unit * count < needed {
             count *= 2;
@@ -666,11 +672,12 @@ impl<'s> Plan<'s> {
         }
         order.sort_unstable();
 
-        let mut position = image.end.next_multiple_of(WORD);
+        let mut position = image.end.next_multiple_of(ALIGNMENT);
         let mut locations = Vec::with_capacity(rows.len());
         for row in &rows {
-            locations.push(position);
-            position += row.data.len().next_multiple_of(WORD);
+            let location = position.next_multiple_of(ALIGNMENT);
+            locations.push(location);
+            position = location + row.data.len().next_multiple_of(WORD);
         }
         let text = image.list_end + new_names.iter().map(|name| name.len() + 1).sum::<usize>();
         let moved_names = moved(names, SEGMENT, text, position);

@@ -5,7 +5,7 @@ use lib.Dec.{ltb}
 use borrow.Author.Tests.{lt-ltb, le-ltb}
 use borrow.Author.Needs.{needs}
 use Rattle.gsd_format.specs.Refusals.{_⇒_}
-use Rattle.gsd_format.specs.Create.{createTest, freshLength}
+use Rattle.gsd_format.specs.Create.{createTest, freshNamelistEnd}
 use Rattle.gsd_format.proofs.Create.{test-length, test-blocks, test-texts, test-room}
 use Rattle.gsd_create.proofs.create_test.Statement.{statement}
 use Rattle.gsd_create.proofs.create_test.Tie as tie
@@ -34,22 +34,19 @@ returns-5 c =
     let second = sym (c .before .bad-text2 .ensures) ∙ c .if5 .taken in
     sym (test-texts _ _ _ _ _ (omega arith) (omega arith) (omega arith) (simp (first, second)))
 
+namelist-place-requires : tie.Need-namelist-place-requires
+namelist-place-requires c κs = search needs
+
 mul-if6 : tie.Need-mul-if6
 mul-if6 c = search needs
 
 add-if6 : tie.Need-add-if6
 add-if6 c = search needs
 
-mul-if6-2 : tie.Need-mul-if6-2
-mul-if6-2 c = search needs
-
-add-if6-2 : tie.Need-add-if6-2
-add-if6-2 c = search needs
-
 -- past the texts the room alone decides
 decides : (c : tie.Else5)
     → let x = c .before .before .before .before .before .before .before .before .before .args in
-    createTest (x .len) (x .application .now) (x .schema .now) (x .slots) (x .segments) ≡ (ltb (x .len) (freshLength (x .slots) (x .segments)) ⇒ 52)
+    createTest (x .len) (x .application .now) (x .schema .now) (x .slots) (x .segments) ≡ (ltb (x .len) (freshNamelistEnd (x .slots) (x .segments)) ⇒ 52)
 decides c =
     test-room _ _ _ _ _ (omega arith) (omega arith) (omega arith)
     (sym (c .before .before .before .bad-text .ensures) ∙ c .before .before .if4 .left)
@@ -57,11 +54,11 @@ decides c =
 
 returns-6 : tie.Need-returns-6
 unfolding _⇒_
-returns-6 c = sym (decides (c .before) ∙ simp (lt-ltb _ _ (c .if6 .taken)))
+returns-6 c = sym (decides (c .before .before) ∙ rw (sym (c .before .namelist-place .ensures)) (simp (lt-ltb _ _ (c .if6 .taken))))
 
 returns-7 : tie.Need-returns-7
 unfolding _⇒_
-returns-7 c = sym (decides (c .before) ∙ simp (le-ltb _ _ (c .if6 .left)))
+returns-7 c = sym (decides (c .before .before) ∙ rw (sym (c .before .namelist-place .ensures)) (simp (le-ltb _ _ (c .if6 .left))))
 
 pub create-test-spec : {M : Type 1} → statement M
 create-test-spec =
@@ -74,9 +71,8 @@ create-test-spec =
     returns-4
     bad-text-requires-2
     returns-5
+    namelist-place-requires
     mul-if6
     add-if6
-    mul-if6-2
-    add-if6-2
     returns-6
     returns-7)

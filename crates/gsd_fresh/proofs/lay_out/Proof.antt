@@ -13,11 +13,17 @@ put-filled-requires c κs = search needs
 put-filled-requires-2 : tie.Need-put-filled-requires-2
 put-filled-requires-2 c κs = search needs
 
+namelist-place-requires : tie.Need-namelist-place-requires
+namelist-place-requires c κs = search needs
+
 mul-fill-zero : tie.Need-mul-fill-zero
 mul-fill-zero c = search needs
 
 add-fill-zero : tie.Need-add-fill-zero
 add-fill-zero c = search needs
+
+fill-zero-requires : tie.Need-fill-zero-requires
+fill-zero-requires c κs = search needs
 
 mul-fill-zero-2 : tie.Need-mul-fill-zero-2
 mul-fill-zero-2 c = search needs
@@ -25,8 +31,8 @@ mul-fill-zero-2 c = search needs
 add-fill-zero-2 : tie.Need-add-fill-zero-2
 add-fill-zero-2 c = search needs
 
-fill-zero-requires : tie.Need-fill-zero-requires
-fill-zero-requires c κs = search needs
+fill-zero-requires-2 : tie.Need-fill-zero-requires-2
+fill-zero-requires-2 c κs = search needs
 
 same-length : tie.Need-same-length
 same-length c = search needs
@@ -34,12 +40,21 @@ same-length c = search needs
 returns : tie.Need-returns
 returns c =
     let last = c .before .before in
-    let third = last .before .before .before .before in
+    let fourth = last .before .before .before .before in
+    let names = fourth .before .before in
+    let third = names .before .before .before in
     let second = third .before .before .before .before in
     let first = second .before .before .before .before in
     let start = first .before .before .before .before .before in
     let x = start .args in
-    rw (last .fill-zero .ensures, third .put-filled2 .ensures, second .put-filled .ensures, first .put-numbers .ensures)
+    rw (
+      last .fill-zero2 .ensures,
+      fourth .fill-zero .ensures,
+      names .namelist-place .ensures,
+      third .put-filled2 .ensures,
+      second .put-filled .ensures,
+      first .put-numbers .ensures,
+    )
     (lay-out (x .image .now) (x .application .now) (x .schema .now) (x .schema-version) (x .slots) (x .segments) (start .pre .0) (start .pre .1 .0) (start .pre .1 .1 .1 .1))
 
 pub lay-out-spec : {M : Type 1} → statement M
@@ -49,10 +64,12 @@ lay-out-spec =
     put-numbers-requires
     put-filled-requires
     put-filled-requires-2
+    namelist-place-requires
     mul-fill-zero
     add-fill-zero
+    fill-zero-requires
     mul-fill-zero-2
     add-fill-zero-2
-    fill-zero-requires
+    fill-zero-requires-2
     same-length
     returns)

@@ -13,11 +13,8 @@ put-word-requires c κs = search needs
 put-word-requires-2 : tie.Need-put-word-requires-2
 put-word-requires-2 c κs = search needs
 
-mul-put-word : tie.Need-mul-put-word
-mul-put-word c = search needs
-
-add-put-word : tie.Need-add-put-word
-add-put-word c = search needs
+namelist-place-requires : tie.Need-namelist-place-requires
+namelist-place-requires c κs = search needs
 
 put-word-requires-3 : tie.Need-put-word-requires-3
 put-word-requires-3 c κs = search needs
@@ -40,7 +37,8 @@ returns c =
     let sixth = seventh .before .before .before .before in
     let fifth = sixth .before .before .before .before in
     let fourth = fifth .before .before .before .before in
-    let third = fourth .before .before .before .before in
+    let names = fourth .before in
+    let third = names .before .before .before .before in
     let second = third .before .before .before .before in
     let first = second .before .before .before .before in
     let x = first .before .before .before .args in
@@ -49,6 +47,7 @@ returns c =
       sixth .put-half .ensures,
       fifth .put-word4 .ensures,
       fourth .put-word3 .ensures,
+      names .namelist-place .ensures,
       third .put-word2 .ensures,
       second .put-word .ensures,
       first .put-magic .ensures,
@@ -61,8 +60,7 @@ put-numbers-spec =
     put-magic-requires
     put-word-requires
     put-word-requires-2
-    mul-put-word
-    add-put-word
+    namelist-place-requires
     put-word-requires-3
     put-word-requires-4
     put-half-requires

@@ -1,7 +1,7 @@
 -- `gsd_places::find_sites` meets its contract.
 use mathlib.Core.Path.{ap, _∙_}
 use borrow.Author.Needs.{needs}
-use Rattle.gsd_stores.specs.View.{aligned}
+use Rattle.gsd_format.specs.Header.{aligned}
 use Rattle.gsd_places.specs.Sites.{behindUnits}
 use Rattle.gsd_places.proofs.find_sites.Statement.{statement}
 use Rattle.gsd_places.proofs.find_sites.Tie as tie
