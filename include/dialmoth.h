@@ -14,7 +14,7 @@
  *
  * Every call answers a number: 0, or that of the refusal, listed below with its
  * name and its text. A refusal changes nothing, neither the image nor out; only
- * append and probes set their out at every call, a refused append to 0 and 0.
+ * append and probes set their out at every call, a refused append to three zeros.
  *
  * Opening costs at most some passes over the image's bytes, whatever it holds,
  * but for names made on purpose to have one 32-bit fingerprint: these are
@@ -234,8 +234,14 @@ uint64_t dialmoth_create(uint8_t *image, size_t image_length,
  * can be appended again only once its NaNs are gone.
  * A stop is this limit, seen as the call ends: within a call the compiler may
  * join or reorder stores, so a cut of power inside it is not covered.
- * out: stores done, stores of the whole append. The frame is there exactly when
- * the answer is 0 and they are equal.
+ * out, three words: stores done, stores of the whole append, and the listed entries
+ * that the whole append copies where it moves the index, whatever the limit; 0 where
+ * the index stays. The frame is there exactly when the answer is 0 and the first two
+ * are equal. (There were two words once: a caller made for those must be compiled
+ * anew with three, for the third would be written past its array.)
+ * Over whole appends the entries copied add up to at most the slots that the index
+ * has gained, and once it has moved to fewer than twice the entries listed at the
+ * end. An append that was stopped and is made again may copy them again.
  * The first stores of every append clear all free slots, 4 stores each, and the
  * rest of the name block, 8 a segment. So 1,440 frames of 4 rows, 18,720 bytes of
  * data, are 8,481,720 stores or 68 MB in one image of 64 slots and 16 segments at
@@ -248,7 +254,7 @@ uint64_t dialmoth_create(uint8_t *image, size_t image_length,
  *   each row: its name without closing zero, then its N * M elements. */
 uint64_t dialmoth_append(uint8_t *image, size_t image_length,
                          const uint8_t *sheet, size_t sheet_length,
-                         uint64_t limit, uint64_t out[2]);
+                         uint64_t limit, uint64_t out[3]);
 
 #ifdef __cplusplus
 }

@@ -4,6 +4,7 @@
 //!   bench table [FILE]    prints a table; FILE has the real library's times, lines "key µs"
 //!   bench stores          prints what appends store
 //!   bench probes          prints what lookups probe
+//!   bench moves           prints what moving the index costs
 
 mod fingerprint;
 mod work;
@@ -16,7 +17,7 @@ use std::hint::black_box;
 use std::path::Path;
 use std::time::{Duration, Instant};
 use std::{env, fs, process};
-use work::{Day, Large, Next, Stored};
+use work::{Day, Large, Moves, Next, Stored};
 
 /// Each row's times are medians of so many passes over the table.
 const PASSES: usize = 7;
@@ -397,6 +398,30 @@ fn probes() {
     }
 }
 
+/// What moving the index costs a month of appends: exact numbers too.
+fn moves() {
+    let (library, _) = library();
+    println!(
+        "Moves of the index over {} frames, one a minute for 30 days, in one image.\n",
+        grouped(work::MINUTES as u64)
+    );
+    println!("| frames of | slots at first | moves | slots at last | entries listed | entries copied | bytes of these | bytes stored in all |");
+    println!("|---|---|---|---|---|---|---|---|");
+    let frames: [(&str, fn(usize) -> Vec<u8>); 2] =
+        [("4 chunks", work::frame_of_four), ("3 chunks", work::frame)];
+    for (what, frame) in frames {
+        for slots in [64, 512] {
+            let Moves { times, slots, entries, copied, stores } = Moves::of(library, frame, slots);
+            let [first, last] = slots.map(grouped);
+            let [entries, copied, bytes, all] =
+                [entries, copied, 32 * copied, 8 * stores].map(grouped);
+            println!(
+                "| {what} | {first} | {times} | {last} | {entries} | {copied} | {bytes} | {all} |"
+            );
+        }
+    }
+}
+
 fn table(real: HashMap<String, f64>) {
     let (library, title) = library();
     let gsd = if real.is_empty() { "real GSD" } else { "gsd.fl" };
@@ -441,6 +466,7 @@ fn main() {
         }
         ["stores"] => stores(),
         ["probes"] => probes(),
+        ["moves"] => moves(),
         ["table"] => table(HashMap::new()),
         ["table", file] => {
             let text = fs::read_to_string(file).unwrap();
@@ -448,7 +474,7 @@ fn main() {
             table(times.map(|(key, time)| (key.into(), time.parse().unwrap())).collect());
         }
         _ => {
-            eprintln!("usage: bench images FOLDER | table [FILE] | stores | probes");
+            eprintln!("usage: bench images FOLDER | table [FILE] | stores | probes | moves");
             process::exit(2);
         }
     }

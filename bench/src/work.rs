@@ -1,11 +1,11 @@
-//! What is timed and counted: a month's index, many names, a day of frames, large chunks.
+//! What is timed and counted: a month's index, many names, a day and a month of frames, large chunks.
 
 use crate::fingerprint;
 use differential::ask::Ask;
 use differential::generate::shortest;
 use differential::images::{
-    blank, lawful_rows, put32, put_names, put_slots, segments_for, sheet, version, Row, Slot, V1_0,
-    V2_1,
+    blank, get64, lawful_rows, put32, put_names, put_slots, segments_for, sheet, version, Row,
+    Slot, V1_0, V2_1,
 };
 use differential::library::{Create, Library, Reference};
 use std::hint::black_box;
@@ -145,10 +145,13 @@ fn create(library: &dyn Library, image: &mut [u8], slots: u64) {
     assert_eq!(library.create(image, request), 0);
 }
 
-fn append(library: &dyn Library, image: &mut [u8], sheet: &[u8]) {
-    let mut out = [0; 2];
+/// Appends a sheet whole, and answers its stores and the entries that it copied.
+fn append(library: &dyn Library, image: &mut [u8], sheet: &[u8]) -> [u64; 2] {
+    let mut out = [0; 3];
     assert_eq!(library.append(image, sheet, u64::MAX, &mut out), 0);
-    assert_eq!(out[0], out[1]);
+    let [done, whole, copied] = out;
+    assert_eq!(done, whole);
+    [whole, copied]
 }
 
 fn readings(minute: usize) -> [[u8; 4]; 3] {
@@ -156,7 +159,7 @@ fn readings(minute: usize) -> [[u8; 4]; 3] {
 }
 
 /// A minute's sheet: three readings, the heater's duty and a setpoint.
-fn frame(minute: usize) -> Vec<u8> {
+pub fn frame(minute: usize) -> Vec<u8> {
     sheet(&[
         Row::new(b"probe", 9, 3, 1, readings(minute).as_flattened()),
         Row::new(b"heater", 1, 1, 1, &[minute as u8]),
@@ -165,7 +168,7 @@ fn frame(minute: usize) -> Vec<u8> {
 }
 
 /// A minute's sheet of four rows: three readings, each a chunk, and the heater's duty.
-fn frame_of_four(minute: usize) -> Vec<u8> {
+pub fn frame_of_four(minute: usize) -> Vec<u8> {
     let [first, second, third] = readings(minute);
     sheet(&[
         Row::new(b"probe0", 9, 1, 1, &first),
@@ -188,7 +191,7 @@ pub struct Stored {
 impl Stored {
     /// Adds the append of one sheet, and makes no store.
     fn add(&mut self, library: &dyn Library, image: &mut [u8], sheet: &[u8]) {
-        let mut out = [0; 2];
+        let mut out = [0; 3];
         assert_eq!(library.append(image, sheet, 0, &mut out), 0);
         self.stores += out[1];
         let rows = lawful_rows(sheet, version(image)).unwrap();
@@ -257,6 +260,43 @@ impl Day {
             assert_eq!(library.chunk(image, minute as u64, name, &mut out), 0);
             black_box(out);
         }
+    }
+}
+
+/// Frames of 30 days.
+pub const MINUTES: usize = 30 * FRAMES;
+
+/// What moving the index costs the appends of a month, all in one image.
+pub struct Moves {
+    pub times: u64,
+    /// At first and at last.
+    pub slots: [u64; 2],
+    /// Listed at last.
+    pub entries: u64,
+    pub copied: u64,
+    /// All stores of the appends.
+    pub stores: u64,
+}
+
+impl Moves {
+    /// Appends such frames to an image of so many slots at first.
+    pub fn of(library: &dyn Library, frame: fn(usize) -> Vec<u8>, slots: u64) -> Moves {
+        let mut image = vec![0; 1 << 25];
+        create(library, &mut image, slots);
+        let mut moves = Moves { times: 0, slots: [slots; 2], entries: 0, copied: 0, stores: 0 };
+        for minute in 0..MINUTES {
+            let [stores, copied] = append(library, &mut image, &frame(minute));
+            moves.stores += stores;
+            moves.copied += copied;
+            let now = get64(&image, 16);
+            moves.times += u64::from(now > moves.slots[1]);
+            moves.slots[1] = now;
+        }
+        moves.entries = library.counts(&image).unwrap()[2];
+        // What W-214 promises of any run of whole appends.
+        assert!(moves.copied <= moves.slots[1] - moves.slots[0]);
+        assert!(moves.times > 0 && moves.copied < 2 * moves.entries);
+        moves
     }
 }
 

@@ -83,7 +83,7 @@ static size_t make_sheet(uint8_t sheet[128], const float *probe, const uint8_t *
 static int append_frame(const float *probe, const uint8_t *duty, uint64_t limit)
 {
     uint8_t sheet[128];
-    uint64_t stores[2], number;
+    uint64_t stores[3], number;
     size_t length = make_sheet(sheet, probe, duty);
 
     if (probe == NULL && duty == NULL)

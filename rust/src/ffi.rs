@@ -1,17 +1,18 @@
 //! The functions of include/dialmoth.h as they are.
 //!
-//! A slice is a pointer and a length; the pointer is never null. `out` points to as many numbers
-//! as the function's comment says. The result is the number of the refusal, 0 for an answer.
+//! A slice is a pointer and a length; no pointer is null. The result is the number of the refusal, 0
+//! for an answer.
 
 extern "C" {
     /// `out`: frames, names, entries.
-    pub fn dialmoth_open(image: *const u8, image_length: usize, out: *mut u64) -> u64;
+    pub fn dialmoth_open(image: *const u8, image_length: usize, out: *mut [u64; 3]) -> u64;
 
     /// `out`: start, length.
-    pub fn dialmoth_name(image: *const u8, image_length: usize, n: u64, out: *mut u64) -> u64;
+    pub fn dialmoth_name(image: *const u8, image_length: usize, n: u64, out: *mut [u64; 2]) -> u64;
 
     /// `out`: frame, N, location, M, id, type, flags.
-    pub fn dialmoth_entry(image: *const u8, image_length: usize, n: u64, out: *mut u64) -> u64;
+    pub fn dialmoth_entry(image: *const u8, image_length: usize, n: u64, out: *mut [u64; 7])
+        -> u64;
 
     /// `out`: frame, N, location, M, id, type, flags.
     pub fn dialmoth_lookup(
@@ -20,7 +21,7 @@ extern "C" {
         frame: u64,
         name: *const u8,
         name_length: usize,
-        out: *mut u64,
+        out: *mut [u64; 7],
     ) -> u64;
 
     /// `out`: start, length.
@@ -30,7 +31,7 @@ extern "C" {
         frame: u64,
         name: *const u8,
         name_length: usize,
-        out: *mut u64,
+        out: *mut [u64; 2],
     ) -> u64;
 
     /// `out`: kind (1 unsigned, 2 signed, 3 single, 4 double), bits.
@@ -41,7 +42,7 @@ extern "C" {
         name: *const u8,
         name_length: usize,
         k: u64,
-        out: *mut u64,
+        out: *mut [u64; 2],
     ) -> u64;
 
     /// `out`, set at every call: entries probed, 0 where no search was made.
@@ -51,7 +52,7 @@ extern "C" {
         frame: u64,
         name: *const u8,
         name_length: usize,
-        out: *mut u64,
+        out: *mut [u64; 1],
     ) -> u64;
 
     pub fn dialmoth_create(
@@ -66,13 +67,14 @@ extern "C" {
         segments: u64,
     ) -> u64;
 
-    /// `out`: stores done, stores of the whole append; 0 and 0 when refused.
+    /// `out`, set at every call: stores done, stores of the whole append, listed entries that the whole
+    /// append copies where it moves the index; three zeros when refused.
     pub fn dialmoth_append(
         image: *mut u8,
         image_length: usize,
         sheet: *const u8,
         sheet_length: usize,
         limit: u64,
-        out: *mut u64,
+        out: *mut [u64; 3],
     ) -> u64;
 }

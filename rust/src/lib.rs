@@ -142,11 +142,18 @@ pub struct Probes {
     pub refusal: Option<Refusal>,
 }
 
-/// How far an append went.
+/// How far an append went, and what it takes as a whole.
 #[derive(Clone, Copy, Debug, PartialEq, Eq)]
 pub struct Stores {
     pub done: u64,
     pub whole: u64,
+    /// Listed entries that the whole append copies where it moves the index, whatever the limit; 0
+    /// where it stays.
+    ///
+    /// Over whole appends they add up to at most the slots that the index has gained, and once it has
+    /// moved to fewer than twice the entries listed at the end. An append that was stopped and is
+    /// made again may copy them again.
+    pub copied: u64,
 }
 
 impl Stores {
@@ -156,9 +163,9 @@ impl Stores {
     }
 }
 
-fn answer<const K: usize>(call: impl FnOnce(*mut u64) -> u64) -> Result<[u64; K], Refusal> {
+fn answer<const K: usize>(call: impl FnOnce(*mut [u64; K]) -> u64) -> Result<[u64; K], Refusal> {
     let mut out = [0; K];
-    match call(out.as_mut_ptr()) {
+    match call(&mut out) {
         0 => Ok(out),
         number => Err(Refusal(number)),
     }
@@ -168,7 +175,7 @@ fn part(image: &[u8], [start, length]: [u64; 2]) -> &[u8] {
     &image[start as usize..][..length as usize]
 }
 
-// Each unsafe block passes pointers and lengths of live slices, and an `out` of the array's length.
+// Each unsafe block passes pointers and lengths of live slices.
 
 /// Opens the image and counts its frames, names and entries.
 pub fn open(image: &[u8]) -> Result<Counts, Refusal> {
@@ -225,11 +232,12 @@ pub fn element(image: &[u8], frame: u64, name: &[u8], k: u64) -> Result<Element,
 /// How many entries of the index the search of [`lookup`], [`chunk`] and [`element`] probes: at most
 /// one more than the number of entries has binary digits.
 pub fn probes(image: &[u8], frame: u64, name: &[u8]) -> Probes {
-    let mut count = 0;
+    let mut out = [0];
     let number = unsafe {
         let (image, name) = ((image.as_ptr(), image.len()), (name.as_ptr(), name.len()));
-        ffi::dialmoth_probes(image.0, image.1, frame, name.0, name.1, &mut count)
+        ffi::dialmoth_probes(image.0, image.1, frame, name.0, name.1, &mut out)
     };
+    let [count] = out;
     Probes { count, refusal: (number != 0).then_some(Refusal(number)) }
 }
 
@@ -275,11 +283,11 @@ pub fn create(
 /// holds NaNs already reads as before and takes appends, but such a chunk of it can be appended again
 /// only once its NaNs are gone.
 pub fn append(image: &mut [u8], sheet: &[u8], limit: u64) -> Result<Stores, Refusal> {
-    let [done, whole] = answer(|out| unsafe {
+    let [done, whole, copied] = answer(|out| unsafe {
         let image = (image.as_mut_ptr(), image.len());
         ffi::dialmoth_append(image.0, image.1, sheet.as_ptr(), sheet.len(), limit, out)
     })?;
-    Ok(Stores { done, whole })
+    Ok(Stores { done, whole, copied })
 }
 
 /// A chunk to append. The append refuses a sheet whose data are not `n` by `m` elements, and floats
@@ -338,6 +346,7 @@ mod tests {
 
     use super::{put_sheet, Row, Type};
     use std::format;
+    use std::vec::Vec;
 
     const HEADER: &str = include_str!("../../include/dialmoth.h");
 
@@ -350,6 +359,23 @@ mod tests {
             let named = format!("DIALMOTH_{} = {}", format!("{kind:?}").to_uppercase(), kind as u8);
             assert_eq!(line.trim().split([',', '/']).next().unwrap().trim(), named);
         }
+    }
+
+    /// The functions that a text declares, each with the length of its `out`.
+    fn outs<'t>(text: &'t str, function: &str, out: &str) -> Vec<(&'t str, Option<&'t str>)> {
+        let declared = |rest: &'t str| {
+            let (name, rest) = rest.split_once('(').unwrap();
+            let (arguments, _) = rest.split_once(')').unwrap();
+            (name, arguments.split_once(out).and_then(|(_, length)| length.split(']').next()))
+        };
+        text.split(function).skip(1).map(declared).collect()
+    }
+
+    #[test]
+    fn outs_are_as_long_as_those_of_the_header() {
+        let header = outs(HEADER, "uint64_t dialmoth_", "uint64_t out[");
+        assert!(header.contains(&("append", Some("3"))) && header.contains(&("create", None)));
+        assert_eq!(outs(include_str!("ffi.rs"), "fn dialmoth_", "out: *mut [u64; "), header);
     }
 
     #[test]

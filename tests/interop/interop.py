@@ -86,7 +86,7 @@ class Peer:
 
     def __init__(self, program, folder):
         self.program = program
-        self.sheet = os.path.join(folder, "sheet")
+        self.sheet, self.whole = (os.path.join(folder, name) for name in ["sheet", "whole"])
 
     def run(self, *words):
         words = [self.program, *map(str, words)]
@@ -96,8 +96,22 @@ class Peer:
         return int(self.run("create", path, length, slots, segments))
 
     def append(self, path, frame, limit=ALL):
-        with open(self.sheet, "wb") as file:
-            file.write(sheet(frame))
+        """The number, the stores done and whole, and the entries copied, which are held to the images
+        before and after the whole append, whatever the limit."""
+        save(self.sheet, sheet(frame))
+        before = content(path)
+        number, done, whole, copied = answer = self.append_sheet(path, limit)
+        if number != 0:
+            assert (done, whole, copied) == (0, 0, 0), answer
+            return answer
+        if done < whole:
+            save(self.whole, before)
+            path = self.whole
+            assert self.append_sheet(path, ALL) == (0, whole, whole, copied)
+        assert copied == moved_entries(before, content(path)), answer
+        return answer
+
+    def append_sheet(self, path, limit):
         return tuple(map(int, self.run("append", path, self.sheet, limit).split()))
 
     def listed(self, path):
@@ -315,6 +329,16 @@ def header(path):
         return struct.unpack("<4Q", file.read(40)[8:])
 
 
+def moved_entries(before, after):
+    """The entries that a whole append between these two images has copied: where the index is at another
+    place, those listed before, up to a slot with location 0."""
+    (index, slots), (moved,) = struct.unpack_from("<2Q", before, 8), struct.unpack_from("<Q", after, 8)
+    if moved == index:
+        return 0
+    locations = [struct.unpack_from("<Q", before, index + 32 * slot + 16)[0] for slot in range(slots)]
+    return [*locations, 0].index(0)
+
+
 def aligned(path):
     index, _, names, _ = header(path)
     return index % 8 == 0 and names % 8 == 0
@@ -348,7 +372,7 @@ def ours_refuses(peer, path, frame, number):
     """Holds an append to its refusal, at any limit, and the image to its bytes."""
     before = content(path)
     for limit in [0, 1, ALL]:
-        assert peer.append(path, frame, limit) == (number, 0, 0)
+        assert peer.append(path, frame, limit) == (number, 0, 0, 0)
     assert content(path) == before
 
 
@@ -374,17 +398,17 @@ def grow(peer, rng, path, stops):
         if rng.random() < 0.2:
             # Also where the frame has no room, and where a stop has left something to clear.
             ours_refuses(peer, path, with_nan(rng, frame), 30)
-        number, _, whole = peer.append(path, frame, 0)
+        number, _, whole, copied = peer.append(path, frame, 0)
         if number == 29:
             break
         assert number == 0
         if stops and rng.random() < 0.5:
             limit = rng.randrange(whole)
-            assert peer.append(path, frame, limit) == (0, limit, whole)
+            assert peer.append(path, frame, limit) == (0, limit, whole, copied)
             if rng.random() < 0.5:
                 # Another frame after the restart: the stopped one leaves nothing behind.
                 frame = random_frame(rng, letters)
-        number, done, whole = peer.append(path, frame)
+        number, done, whole, _ = peer.append(path, frame)
         if number == 0:
             assert done == whole
             frames.append(frame)
@@ -579,9 +603,9 @@ class Tests:
         for frame in frames:
             assert self.peer.append(path, frame)[0] == 0
         frame = random_frame(rng, letters)
-        whole = self.peer.append(path, frame, 0)[2]
+        _, _, whole, copied = self.peer.append(path, frame, 0)
         limit = rng.choice([rng.randrange(whole), whole - 1 - rng.randrange(min(8, whole))])
-        assert self.peer.append(path, frame, limit) == (0, limit, whole)
+        assert self.peer.append(path, frame, limit) == (0, limit, whole, copied)
         ours_reads(self.peer, path, frames)
         with gsd.pygsd.GSDFile(open(path, "rb")) as file:
             hold(file, frames)
@@ -591,10 +615,10 @@ class Tests:
         probe = numpy.array([[1], [2], [3]], dtype=numpy.float32)
         heater = numpy.array([[40]], dtype=numpy.uint8)
         self.peer.create(path, 1024, 2, 1)
-        assert self.peer.append(path, {"probe": probe}) == (0, 23, 23)
+        assert self.peer.append(path, {"probe": probe}) == (0, 23, 23, 0)
         limit = 39
         both = {"probe": probe, "heater": heater}
-        assert self.peer.append(path, both, limit) == (0, limit, 43)
+        assert self.peer.append(path, both, limit) == (0, limit, 43, 1)
         ours_reads(self.peer, path, [{"probe": probe}])
         with gsd.fl.open(path, READ) as file:
             shown = [name for name in both if file.chunk_exists(1, name)]
@@ -782,7 +806,7 @@ class Tests:
         layer = layer_of(path)
         make_longer(path)
         frame = random_frame(rng, LETTERS if layer == (2, 1) else "")
-        number, done, whole = self.peer.append(path, frame)
+        number, done, whole, _ = self.peer.append(path, frame)
         if not aligned(path):
             assert number == 21
         else:

@@ -2,7 +2,8 @@
  * The library's calls on files, for the interoperation tests.
  *
  *   peer create FILE LENGTH SLOTS SEGMENTS   writes a fresh image; prints the number
- *   peer append FILE SHEET LIMIT             appends; prints the number, stores done and whole
+ *   peer append FILE SHEET LIMIT             appends; prints the number, stores done and whole, and
+ *                                            entries copied
  *   peer list FILE                           prints the number; if 0, the counts, then a line
  *                                            "name HEX" for each name and for each entry
  *                                            "entry frame N location M id type flags start length",
@@ -76,11 +77,11 @@ static int create(const char *path, size_t length, uint64_t slots, uint64_t segm
 static int append(const char *path, const char *sheet_path, uint64_t limit)
 {
     struct bytes image = load(path), sheet = load(sheet_path);
-    uint64_t stores[2];
+    uint64_t out[3];
     uint64_t refused =
-        dialmoth_append(image.start, image.length, sheet.start, sheet.length, limit, stores);
+        dialmoth_append(image.start, image.length, sheet.start, sheet.length, limit, out);
 
-    printf("%" PRIu64 " %" PRIu64 " %" PRIu64 "\n", refused, stores[0], stores[1]);
+    printf("%" PRIu64 " %" PRIu64 " %" PRIu64 " %" PRIu64 "\n", refused, out[0], out[1], out[2]);
     save(path, image);
     return 0;
 }

@@ -113,19 +113,20 @@ pub extern "C" fn dialmoth_create(
     create(image, application, schema, schema_version, slots, segments)
 }
 
-// Stores done, stores of the whole append: 0 and 0 where it is refused, which changes no byte of the image.
+// Stores done, stores of the whole append, listed entries that it copies: three zeros where it is refused, which changes no
+// byte of the image.
 #[no_mangle]
 pub extern "C" fn dialmoth_append(
     image: &mut [u8],
     sheet: &[u8],
     limit: u64,
-    out: &mut [u64; 2],
+    out: &mut [u64; 3],
 ) -> u64
     ensures number { λ r. ⌜ r ≡ appendTest (now (image .entry)) (now (sheet .entry)) ⌝ }
     ensures image { λ _. ⌜ now (image .exit) ≡ appended (now (image .entry)) (now (sheet .entry)) limit ⌝ }
     ensures out { λ _. ⌜ now (out .exit) ≡ appendOut (now (image .entry)) (now (sheet .entry)) limit ⌝ }
 {
     let answer = append(image, sheet, limit);
-    *out = [answer.done, answer.whole];
+    *out = [answer.done, answer.whole, answer.copied];
     answer.number
 }

@@ -10,20 +10,22 @@ use Rattle.gsd_format.proofs.Refusals.{both}
 use Rattle.gsd_stores.specs.Stores.{half, after}
 use Rattle.gsd_stores.specs.View.{viewOf}
 use Rattle.gsd_stores.specs.Sheet.{rowsOf, Exact}
-use Rattle.gsd_stores.specs.Append.{appendTest, storesFor, appendAnswer, appended}
+use Rattle.gsd_stores.specs.Append.{appendTest, storesFor, copiedEntries, appendAnswer, appended}
 use Rattle.gsd_stores.proofs.Sheet.{accepted}
 use Rattle.gsd_stores.proofs.Valid.{Valid, valid, Ready as Accepted, ready}
 use Rattle.gsd_stores.proofs.Limits.{refused-answer, refused-image}
 use Rattle.gsd_stores.proofs.View.{Is}
 use Rattle.gsd_stores.proofs.Shown.{opens-shown}
 use Rattle.gsd_stores.proofs.Moments.{stores-are}
+use Rattle.gsd_stores.proofs.Moving.{copied-where}
 use Rattle.gsd_extents.specs.Exec.{tasks, exec, storesOf}
 use Rattle.gsd_extents.specs.Extents.{none}
 use Rattle.gsd_extents.proofs.Tasks.{tasks-rest, exec-after, storesOf-length}
 use Rattle.gsd_extents.proofs.Extents.{good-more}
 use Rattle.gsd_matched.specs.Matches.{Matches}
 use Rattle.gsd_plan.specs.Planning.{planned, Plans}
-use Rattle.gsd_steps.specs.Steps.{extentsOf, Ready}
+use Rattle.gsd_steps.specs.Steps.{extentsOf, Ready, copiedIn}
+use Rattle.gsd_matched.proofs.Moves.{entries-copied}
 use Rattle.gsd_matched.proofs.StoreList.{stores-listed}
 use Rattle.gsd_matched.proofs.GoodExtents.{plan-ready}
 use Rattle.gsd_turns.specs.declared.turn.Turned.{Turned}
@@ -43,7 +45,7 @@ ready-half n sheet p a h = record {
 
 -- a refused append
 pub refused-append : (x sheet : List ℕ) (limit k : ℕ) → k ≡ appendTest x sheet → (k ≡ 0 → ⊥)
-    → (record { number = k; done = 0; whole = 0 } ≡ appendAnswer x sheet limit) × (x ≡ appended x sheet limit)
+    → (record { number = k; done = 0; whole = 0; copied = 0 } ≡ appendAnswer x sheet limit) × (x ≡ appended x sheet limit)
 refused-append x sheet limit zero e f = absurd (f refl)
 refused-append x sheet limit (suc n) e f = (sym (refused-answer x sheet limit n (sym e)), sym (refused-image x sheet limit n (sym e)))
 
@@ -91,10 +93,16 @@ module _ {x sheet p : List ℕ} (h : Carried x sheet p) where
             ∙ ap (λ k. after x (take k (storesFor x sheet))) made,
       )
 
+  -- the entries that the plan has copied are those of the append's step 5
+  plan-copied : copiedIn p ≡ copiedEntries x sheet
+  unfolding viewOf
+  plan-copied = entries-copied ready-plan shown (h .plan .numbers) ∙ sym (copied-where x sheet valid-rows (h .accepts))
+
   -- so the append answers as it is defined
-  pub accepted-append : (limit all : ℕ) (t : Turned) (y : List ℕ) → all ≡ length (tasks (extentsOf sheet p)) → TurnSays sheet x p 0 0 limit t y
-      → (record { number = 0; done = t .made; whole = all } ≡ appendAnswer x sheet limit) × (y ≡ appended x sheet limit)
+  pub accepted-append : (limit all copies : ℕ) (t : Turned) (y : List ℕ) → all ≡ length (tasks (extentsOf sheet p)) → copies ≡ copiedIn p →
+      TurnSays sheet x p 0 0 limit t y
+      → (record { number = 0; done = t .made; whole = all; copied = copies } ≡ appendAnswer x sheet limit) × (y ≡ appended x sheet limit)
   unfolding appendAnswer
-  accepted-append limit all t y a says =
+  accepted-append limit all copies t y a c says =
       let r = turn-appends limit t y says in
-      (λ i. record { number = sym (h .accepts) i; done = r .0 i; whole = (a ∙ plan-count) i }, r .1)
+      (λ i. record { number = sym (h .accepts) i; done = r .0 i; whole = (a ∙ plan-count) i; copied = (c ∙ plan-copied) i }, r .1)

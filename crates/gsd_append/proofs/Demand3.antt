@@ -50,7 +50,7 @@ pub data Calls : List ℕ → List Call → List ℕ → Type 0 where
   none : {x : List ℕ} → Calls x [] x
   then : {x y z : List ℕ} {c : Call} {cs : List Call} (r : Appended) → Called x c r y → Calls y cs z → Calls x (c ∷ cs) z
 
-calls-run : {x z : List ℕ} {cs : List Call} → Calls x cs z → z ≡ afterRun x cs
+pub calls-run : {x z : List ℕ} {cs : List Call} → Calls x cs z → z ≡ afterRun x cs
 unfolding afterRun
 calls-run none = refl
 calls-run (then {cs = cs} r p q) = calls-run q ∙ ap (λ m. afterRun m cs) (call-leaves p)
@@ -81,13 +81,15 @@ append-follows {x} {y} {z} {c} k l h g r s p q = rw (← left-at x y c r k p, �
 
 -- The last store was made exactly when the answer says so
 module _ (x y : List ℕ) (c : Call) (r : Appended) (p : Called x c r y) where
+  pub answer-whole : r .done ≡ r .whole → length (storesFor x (c .sheet)) ≤ c .limit
+  unfolding appendAnswer
+  answer-whole d = omega (arith, ap (λ a. a .done) (call-answers p), ap (λ a. a .whole) (call-answers p))
+
   pub answer-made : r .number ≡ 0 → r .done ≡ r .whole → lastStoreMade x c ≡ true
   unfolding lastStoreMade appendAnswer
   answer-made n d =
       let number = ap (λ a. a .number) (call-answers p) in
-      let done = ap (λ a. a .done) (call-answers p) in
-      let whole = ap (λ a. a .whole) (call-answers p) in
-      both-of _ _ (eq-eqb _ _ (sym number ∙ n)) (le-leb (length (storesFor x (c .sheet))) (c .limit) (omega arith))
+      both-of _ _ (eq-eqb _ _ (sym number ∙ n)) (le-leb (length (storesFor x (c .sheet))) (c .limit) (answer-whole d))
 
   pub made-answer : lastStoreMade x c ≡ true → (r .number ≡ 0) × (r .done ≡ r .whole)
   unfolding lastStoreMade appendAnswer

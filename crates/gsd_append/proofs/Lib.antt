@@ -4,3 +4,5 @@ pub mod Appends
 pub mod NextStore
 -- Demand 3 about the append.
 pub mod Demand3
+-- What moving the index costs.
+pub mod Moving

@@ -7,9 +7,9 @@ use gsd_lines::part;
 use gsd_lines::within;
 use gsd_lines::words;
 
-fn append(image: &mut [u8], len: u64, sheet: &[u8], limit: u64, two: &mut [u64; 2]) -> u64 {
+fn append(image: &mut [u8], len: u64, sheet: &[u8], limit: u64, three: &mut [u64; 3]) -> u64 {
     let len = within(len, image.len());
-    dialmoth_append(&mut image[0..len], sheet, limit, two)
+    dialmoth_append(&mut image[0..len], sheet, limit, three)
 }
 
 fn create(image: &mut [u8], len: u64, n: Numbers, table: &[u8]) -> u64 {
@@ -33,11 +33,11 @@ pub fn call(
     image: &mut [u8; 32768],
     len: u64,
     sheet: &[u8],
-    two: &mut [u64; 2],
+    three: &mut [u64; 3],
 ) -> u64 {
     match k {
         words::CREATE => create(image, len, n, table),
-        words::APPEND => append(image, len, sheet, n.e, two),
+        words::APPEND => append(image, len, sheet, n.e, three),
         _ => 0,
     }
 }

@@ -32,7 +32,7 @@ fn number_of(
         return look(line, table, image, kept, len);
     }
     if k < words::NAME {
-        return call(k, line.numbers, table, image, len, sheet, two);
+        return call(k, line.numbers, table, image, len, sheet, three);
     }
     ask(
         k,
@@ -55,10 +55,10 @@ fn ask_line(
     s: State,
     path: &[u8],
 ) -> State {
-    // More than a search ever probes: a count that is not set shows.
+    // More than a search ever probes, and no zeros for a refused append: a count that is not set shows.
     let mut one = [99u64; 1];
-    let mut two = [1u64; 2];
-    let mut three = [0u64; 3];
+    let mut two = [0u64; 2];
+    let mut three = [1u64; 3];
     let mut seven = [0u64; 7];
     let mut text = [0u8; 32768];
     let number = number_of(

@@ -158,7 +158,7 @@ pub record Moving (b : Move) (flag : Bool) (old : ℕ) (t : List ℕ) (new n tot
   pub fits : length t ≤ 8 * n
 
 -- the words that hold a text
-abbrev holding : List ℕ → ℕ
+abbrev pub holding : List ℕ → ℕ
 holding t = (length t + 7) / 8
 
 module _ (b : Move) where
@@ -176,6 +176,12 @@ module _ (b : Move) where
   moves {old} {t = t} m =
       let list : old + length t - old ≡ length t = omega arith in
       rw (ne-eqb (b .count) 0 (λ e. omega (arith, m .count, m .some)), m .from, m .until, m .to, m .count, m .words, list)
+
+  -- so many words of its list are copied
+  pub copied-words : {old new n total : ℕ} {t : List ℕ} {flag : Bool} → Moving b flag old t new n total → moveExtent b 0 .words ≡ cond flag (holding t) 0
+  unfolding tab
+  copied-words {flag = true} m = ap (λ l. getD l 0 none .words) (moves m)
+  copied-words {flag = false} m = ap (λ l. getD l 0 none .words) (stays (m .count))
 
 pub block-moved : {P Q : List ℕ → Type 0} {old new n total : ℕ} (sheet : List ℕ) (b : Move) (flag : Bool) (t : List ℕ) → Moving b flag old t new n total →
     Octets t → ((img : List ℕ) → P img → Text img old t) → ((img : List ℕ) → P img → Q (after img (moved flag new n t (b .header) total))) →

@@ -1,5 +1,6 @@
--- The two blocks of a plan that matches an append: they move as the append says, and end in the image.
-use Prim.Native.Nat.{ℕ, _+_, _*_, _≤_}
+-- The two blocks of a plan that matches an append: they move as the append says, with the entries that it copies, and end in the
+-- image.
+use Prim.Native.Nat.{ℕ, _+_, _*_, _/_, _≤_}
 use mathlib.Core.Path.{_≡_, refl, _∙_, ap}
 use mathlib.Core.Bool.{Bool, true, false, cond}
 use mathlib.Core.List.{List}
@@ -17,8 +18,8 @@ use Rattle.gsd_stores.proofs.Plan.{positions, taken}
 use Rattle.gsd_stores.proofs.View.{Is, is-long}
 use Rattle.gsd_stores.proofs.Valid.{Ready as Accepted}
 use Rattle.gsd_matched.specs.Matches.{NumbersMatch}
-use Rattle.gsd_steps.specs.Steps.{nameMove, indexMove}
-use Rattle.gsd_matched.proofs.Blocks.{Moving}
+use Rattle.gsd_steps.specs.Steps.{nameMove, indexMove, copiedIn}
+use Rattle.gsd_matched.proofs.Blocks.{Moving, holding, copied-words}
 
 units : (k : ℕ) (flag : Bool) (total : ℕ) → k * cond flag total 0 ≡ cond flag (k * total) 0
 units k true total = refl
@@ -67,3 +68,11 @@ module _ {x : List ℕ} {v : View} {rs : List Row} {d : Plan} {sheet p : List �
     before = omega (arith, entries-long is, is .entries .few, r .plan .room .index, end-more (d .body) (d .start), positions d .0);
     fits = omega (arith, entries-long is, is .entries .few, r .plan .twiceSlots);
   }
+
+  -- with the index all listed entries are copied
+  pub entries-copied : copiedIn p ≡ cond (d .indexMoves) (length (v .entries)) 0
+  entries-copied = ap (λ n. n / 4) (copied-words (indexMove p) index-move) ∙ fourth (d .indexMoves)
+    where
+      fourth : (flag : Bool) → cond flag (holding (entriesIn x v)) 0 / 4 ≡ cond flag (length (v .entries)) 0
+      fourth true = omega (arith, entries-long is)
+      fourth false = refl

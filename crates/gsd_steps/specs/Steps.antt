@@ -50,6 +50,10 @@ moveExtent b (suc zero) = ifMoved b (number (b .to + 8 * listed b) (b .words - l
 moveExtent b (suc (suc zero)) = ifMoved b (number (b .header) 1 (b .to))
 moveExtent b (suc (suc (suc k))) = ifMoved b (number (b .header + 8) 1 (b .count))
 
+-- the listed entries that step 5 copies: the words of the list, four to an entry
+abbrev pub copiedIn : List ℕ → ℕ
+copiedIn p = moveExtent (indexMove p) 0 .words / 4
+
 -- 4. the j-th new name
 unfoldable pub nameExtent : List ℕ → ℕ → Extent
 nameExtent p j = name (nameTo p j) (nameFrom p (newRow p j)) (dataFrom p (newRow p j))

@@ -30,3 +30,4 @@ pub mod Readings
 pub mod Limits
 pub mod Places
 pub mod Starts
+pub mod Moving

@@ -13,7 +13,7 @@ use borrow.Author.Tests.{eqb-true, eq-eqb, leb-true, le-leb}
 use Rattle.gsd_format.specs.Opening.{verdict}
 use Rattle.gsd_format.proofs.Refusals.{both-true, both-of}
 use Rattle.gsd_stores.specs.Sheet.{Row, rowsOf}
-use Rattle.gsd_stores.specs.Stores.{after}
+use Rattle.gsd_stores.specs.Stores.{Store, after}
 use Rattle.gsd_stores.specs.Append.{appendTest, storesFor, appended}
 use Rattle.gsd_stores.specs.Runs.{Bytes, Call, storesMade, afterStores, afterCall, afterRun, frames, lastStoreMade, completed}
 use Rattle.gsd_stores.specs.Runs.{Moment, start, during, later, Follows, fromStart, inCall, fromCall, bothLater}
@@ -38,13 +38,14 @@ pub record Accepted (x s : List ℕ) : Type 0 where
   pub each : (k : ℕ) → k < length (storesFor x s) → Stored x (after x (take k (storesFor x s))) (after x (take (suc k) (storesFor x s)))
   pub last : Grown x (rowsOf s) (after x (storesFor x s))
 
-stores-refused : (x s : List ℕ) → (appendTest x s ≡ 0 → ⊥) → storesFor x s ≡ []
+-- a refused append has no store, in any step
+pub refused-none : (n : ℕ) (xs : List Store) → (n ≡ 0 → ⊥) → _≡_ {A = List Store} (elim n [ zero ↦ xs | suc k ↦ [] ]) []
+refused-none zero xs h = absurd (h refl)
+refused-none (suc n) xs h = refl
+
+pub stores-refused : (x s : List ℕ) → (appendTest x s ≡ 0 → ⊥) → storesFor x s ≡ []
 unfolding storesFor
-stores-refused x s h = go (appendTest x s) refl
-  where
-    go : (n : ℕ) → appendTest x s ≡ n → storesFor x s ≡ []
-    go zero e = absurd (h e)
-    go (suc n) e = rw (e, storesFor)
+stores-refused x s h = refused-none (appendTest x s) _ h
 
 appended-is : (x s : List ℕ) (limit : ℕ) → appended x s limit ≡ after x (take (min limit (length (storesFor x s))) (storesFor x s))
 unfolding appended

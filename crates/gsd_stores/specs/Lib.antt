@@ -9,3 +9,4 @@ pub mod Runs
 pub mod Demand3
 pub mod Readings
 pub mod Starts
+pub mod Moving

@@ -149,7 +149,7 @@ fn told(k: usize, number: u64) -> usize {
         return 1;
     }
     if k == words::APPEND {
-        return 2;
+        return 3;
     }
     if number != 0 {
         return 0;

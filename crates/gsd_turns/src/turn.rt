@@ -9,7 +9,7 @@ ghost use Prim.Native.Nat.{_-_, _≤_, min};
 ghost use lib.ListN.{length};
 ghost use Rattle.gsd_stores.specs.Stores.{half};
 ghost use Rattle.gsd_extents.specs.Exec.{Good, tasksFrom, tasks, exec};
-ghost use Rattle.gsd_steps.specs.Steps.{extentsOf, Ready};
+ghost use Rattle.gsd_steps.specs.Steps.{extentsOf, Ready, copiedIn};
 ghost use Rattle.gsd_turns.specs.Turns.{Cursor, TurnSays};
 
 // The cursor (the next extent, and the next word of it) and how many stores were made.
@@ -91,4 +91,14 @@ pub fn whole(sheet: &[u8], plan: &[u64]) -> u64
         r += 1;
     }
     sum
+}
+
+// The listed entries that step 5 copies. Its first extent holds their words, and has none where the index stays.
+pub fn copied(sheet: &[u8], plan: &[u64]) -> u64
+    requires { ⌜ Ready half (now sheet) (now plan) ⌝ }
+    ensures { λ r. ⌜ r ≡ copiedIn (now (plan .entry)) ⌝ }
+{
+    let first = 7 + plan[FRESH] as usize + plan[ROWS] as usize;
+    let x = extent_at(sheet, plan, first);
+    x.words as u64 / 4
 }

@@ -1,3 +1,4 @@
 -- The proofs of the worked cases.
 pub mod Starts
+pub mod Moving
 pub mod Table

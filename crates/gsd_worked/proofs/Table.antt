@@ -23,16 +23,17 @@ use Rattle.gsd_stores.specs.Stores.{after, words, up, down, slotsDown}
 use Rattle.gsd_stores.specs.View.{viewOf, endOfUse}
 use Rattle.gsd_stores.specs.Plan.{bodies, endFrom, newNames, newEntries, inserted, sorted, doubled, planOf}
 use Rattle.gsd_stores.specs.Steps.{clearIndex, clearNames, storeTexts, moved, moveNames, storeName, storeNames, moveIndex, entryBytes, indexBytes, storeEntries, stepsOf, storeList}
-use Rattle.gsd_stores.specs.Append.{imageTest, planTest, appendTest, storesFor, appendAnswer, appended}
+use Rattle.gsd_stores.specs.Append.{imageTest, planTest, appendTest, storesFor, stepFive, copiedEntries, appendAnswer, appended}
 use Rattle.gsd_stores.specs.Runs.{afterRun, lastStoreMade, completed}
 use Rattle.gsd_worked.specs.Table.{tableRow, sheetA, sheetB, sheetOf, createdIn, madeIn, freshIn, inVersion, stepCounts, shown, table, versions}
 use Rattle.gsd_worked.specs.Table.{entriesFrom, search, probes, framed, sized, gaps, blocks, defaults}
 use Rattle.gsd_worked.specs.Table.{packed, sheetWith, sheetWithout, sheetNamed, alone, inFirst, inLast, undefined}
-use Rattle.gsd_worked.specs.Table.{inSegments, over, image10, named, entered, emptied, answered, first10, starts, passes}
+use Rattle.gsd_worked.specs.Table.{inSegments, over, image10, named, entered, emptied, answered, first10, starts, moving, passes}
 use Rattle.gsd_worked.proofs.Starts.{starts-pass}
+use Rattle.gsd_worked.proofs.Moving.{moving-pass}
 
 pub worked : (passes table ≡ true) × (passes versions ≡ true) × (passes probes ≡ true) × (passes gaps ≡ true) × (passes defaults ≡ true)
-    × (passes undefined ≡ true) × (passes first10 ≡ true) × (passes starts ≡ true)
+    × (passes undefined ≡ true) × (passes first10 ≡ true) × (passes starts ≡ true) × (passes moving ≡ true)
 unfolding le leBytes same zeroIn stored ascii _⇒_ _▹_ sizeOf lastType layoutOf partsAt beforeZero segmentsAt blockParts nameParts
     namesOf flat indexOf entryAt entriesAt entriesOf framesFrom headerTest blocksTest unclosedFrom openName twins namesTest
     repeated misplaced entryTest entriesTest verdict countsOf
@@ -42,8 +43,8 @@ unfolding le leBytes same zeroIn stored ascii _⇒_ _▹_ sizeOf lastType layout
     badTable bodiesEnd rowsAt rowsOf oneOf nanBits top hid ones nanElement anyNan formTest sheetTest after words up down slotsDown viewOf chunksEnd endOfUse bodies
     newNames newEntries inserted sorted doubled planOf clearIndex clearNames storeTexts endFrom moved moveNames
     storeName storeNames moveIndex entryBytes indexBytes storeEntries stepsOf storeList imageTest planTest appendTest
-    storesFor appendAnswer appended afterRun lastStoreMade completed tableRow sheetA sheetB createdIn madeIn freshIn
+    storesFor stepFive copiedEntries appendAnswer appended afterRun lastStoreMade completed tableRow sheetA sheetB createdIn madeIn freshIn
     stepCounts shown sheetOf inVersion elementOf elementIn element halve firstId walk reach probed searched searchTest
     unless size span climb entriesFrom search framed sized blocks packed sheetWith sheetWithout sheetNamed alone inFirst inLast
     inSegments over image10 named entered emptied answered table versions probes gaps defaults undefined first10 passes
-worked = (refl, refl, refl, refl, refl, refl, refl, starts-pass)
+worked = (refl, refl, refl, refl, refl, refl, refl, starts-pass, moving-pass)

@@ -1,10 +1,10 @@
 -- The worked cases that are proved: each a list of numbers computed by the definitions, and what it must be.
-use Prim.Native.Nat.{ℕ, zero, suc, _+_, _*_, _-_}
+use Prim.Native.Nat.{ℕ, zero, suc, _+_, _*_, _-_, _^_}
 use Prim.Native.String.{String}
 use mathlib.Core.List.{List, [], _∷_, _++_, map}
 use mathlib.Core.Bool.{Bool, true, _&&_}
 use lib.ListN.{getD, length, take, drop, replicate}
-use Rattle.gsd_format.specs.Bytes.{same, leBytes, zeros, stored}
+use Rattle.gsd_format.specs.Bytes.{same, le, leBytes, zeros, stored}
 use Rattle.gsd_format.specs.Ascii.{ascii}
 use Rattle.gsd_format.specs.Types.{sizeOf}
 use Rattle.gsd_format.specs.Header.{version10, version20, version21, versionOf, layoutOf}
@@ -26,7 +26,7 @@ use Rattle.gsd_stores.specs.Plan.{Plan, planOf}
 use Rattle.gsd_stores.specs.Steps.{clearIndex, clearNames, storeData, moveNames, storeNames, moveIndex, storeEntries, nameBlock, indexBlock}
 use Rattle.gsd_stores.specs.Steps.{indexBytes}
 use Rattle.gsd_stores.specs.declared.Appended.{Appended}
-use Rattle.gsd_stores.specs.Append.{appendTest, storesFor, appendAnswer, appended}
+use Rattle.gsd_stores.specs.Append.{appendTest, storesFor, stepFive, appendAnswer, appended}
 use Rattle.gsd_stores.specs.Runs.{frames}
 
 pub record Case : Type 0 where
@@ -423,9 +423,9 @@ entered es = verdict (image10 four es)
 unfoldable pub emptied : ℕ → List ℕ → List ℕ
 emptied place img = stored img place (leBytes 8 257 ++ leBytes 8 0)
 
--- number, stores done and stores of the whole
+-- number, stores done, stores of the whole and entries copied
 unfoldable pub answered : List ℕ → List ℕ → ℕ → List ℕ
-answered img sheet limit = let a : Appended = appendAnswer img sheet limit in a .number ∷ a .done ∷ a .whole ∷ []
+answered img sheet limit = let a : Appended = appendAnswer img sheet limit in a .number ∷ a .done ∷ a .whole ∷ a .copied ∷ []
 
 -- images of 1.0: names in segments, entries in the order of writing, and no append
 unfoldable pub first10 : List Case
@@ -514,7 +514,7 @@ first10 =
     ∷ record {
       says = "an append, whatever its limit: 20, no store";
       got = answered x sheetA 0 ++ answered x sheetA 1000 ++ appended x sheetA 1000;
-      expected = 20 ∷ 0 ∷ 0 ∷ 20 ∷ 0 ∷ 0 ∷ x;
+      expected = 20 ∷ 0 ∷ 0 ∷ 0 ∷ 20 ∷ 0 ∷ 0 ∷ 0 ∷ x;
     }
     ∷ record {
       says = "20 behind the image's number, before 22 and 31";
@@ -646,6 +646,56 @@ starts =
       says = "21 asks for multiples of 8 as before";
       got = map (λ at. appendTest (stored (freshIn 1024) indexPlace (leBytes 8 at ++ leBytes 8 1)) sheetA) (256 ∷ 264 ∷ 268 ∷ 288 ∷ []);
       expected = 0 ∷ 0 ∷ 21 ∷ 0 ∷ [];
+    }
+    ∷ []
+
+-- the entries that each of these sheets has copied, appended one after the other; then the slots, and the entries listed
+unfoldable pub copiedBy : List (List ℕ) → List ℕ → List ℕ
+copiedBy [] img = layoutOf img .slots ∷ length (entriesOf img) ∷ []
+copiedBy (sheet ∷ sheets) img = appendAnswer img sheet 1000 .copied ∷ copiedBy sheets (appended img sheet 1000)
+
+-- what moving the index copies
+unfoldable pub moving : List Case
+moving =
+    let a : List ℕ = appended (freshIn 1024) sheetA 23 in
+    let one : List ℕ = sheetFrom (bytesRow "probe" [] ∷ []) in
+    let two : List ℕ = sheetFrom (bytesRow "a" [] ∷ bytesRow "b" [] ∷ []) in
+    let long : List ℕ = sheetFrom (bytesRow "a name that has with its zero more bytes than are left in one segment" [] ∷ []) in
+    record { says = "sheet A copies no entry, B 1"; got = copiedBy (sheetA ∷ sheetB ∷ []) (freshIn 1024); expected = 0 ∷ 1 ∷ 4 ∷ 3 ∷ [] }
+    ∷ record {
+      says = "whatever the limit, 0 too";
+      got = answered a sheetB 0 ++ answered a sheetB 16 ++ answered a sheetB 34 ++ answered a sheetB 1000;
+      expected = 0 ∷ 0 ∷ 43 ∷ 1 ∷ 0 ∷ 16 ∷ 43 ∷ 1 ∷ 0 ∷ 34 ∷ 43 ∷ 1 ∷ 0 ∷ 43 ∷ 43 ∷ 1 ∷ [];
+    }
+    ∷ record {
+      says = "of the 18 stores of B's step 5 the first four hold the entry, from 576 on";
+      got = length (stepFive a sheetB) ∷ map (λ s. s .place) (take 4 (stepFive a sheetB)) ++ map (λ s. le 8 (s .bytes) 0) (take 4 (stepFive a sheetB));
+      expected = 18 ∷ 576 ∷ 584 ∷ 592 ∷ 600 ∷ 0 ∷ 3 ∷ 384 ∷ (1 + 2 ^ 48 * 9) ∷ [];
+    }
+    ∷ record {
+      says = "refused in 703 bytes: none, whatever the limit";
+      got = answered (appended (freshIn 703) sheetA 23) sheetB 0 ++ answered (appended (freshIn 703) sheetA 23) sheetB 1000;
+      expected = 29 ∷ 0 ∷ 0 ∷ 0 ∷ 29 ∷ 0 ∷ 0 ∷ 0 ∷ [];
+    }
+    ∷ record {
+      says = "B again where it was stopped: before the new count stands it copies again, with it the index has moved";
+      got = map (λ k. appendAnswer (appended a sheetB k) sheetB 1000 .copied) (33 ∷ 34 ∷ 35 ∷ 42 ∷ []);
+      expected = 1 ∷ 1 ∷ 0 ∷ 0 ∷ [];
+    }
+    ∷ record {
+      says = "an index that lists nothing moves, of 1 slot and of none: 0";
+      got = copiedBy (two ∷ []) (madeIn 1 1 1024) ++ copiedBy (two ∷ []) (without 1024);
+      expected = 0 ∷ 2 ∷ 2 ∷ 0 ∷ 2 ∷ 2 ∷ [];
+    }
+    ∷ record {
+      says = "the name block moves and the index stays: 0";
+      got = copiedBy (long ∷ []) a ++ blocks (appended a long 1000);
+      expected = 0 ∷ 2 ∷ 2 ∷ 256 ∷ 2 ∷ 448 ∷ 2 ∷ 0 ∷ 2 ∷ 2 ∷ 2 ∷ [];
+    }
+    ∷ record {
+      says = "1 slot and five rows, one to an append: 1 + 2 + 4 = 7 copied, 8 slots, 5 entries, 7 < 10";
+      got = copiedBy (one ∷ one ∷ one ∷ one ∷ one ∷ []) (madeIn 1 1 1024);
+      expected = 0 ∷ 1 ∷ 2 ∷ 0 ∷ 4 ∷ 8 ∷ 5 ∷ [];
     }
     ∷ []
 

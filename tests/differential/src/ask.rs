@@ -69,13 +69,13 @@ pub trait Ask: Library {
         }
     }
 
-    /// Done and whole.
-    fn put(&self, image: &mut [u8], sheet: &[u8], limit: u64) -> Answer<[u64; 2]> {
+    /// Done, whole and copied.
+    fn put(&self, image: &mut [u8], sheet: &[u8], limit: u64) -> Answer<[u64; 3]> {
         answer(|out| self.append(image, sheet, limit, out))
     }
 
-    /// The image that `limit` stores leave, with done and whole.
-    fn after(&self, image: &[u8], sheet: &[u8], limit: u64) -> (Vec<u8>, Answer<[u64; 2]>) {
+    /// The image that `limit` stores leave, with done, whole and copied.
+    fn after(&self, image: &[u8], sheet: &[u8], limit: u64) -> (Vec<u8>, Answer<[u64; 3]>) {
         let mut image = image.to_vec();
         let stores = self.put(&mut image, sheet, limit);
         (image, stores)

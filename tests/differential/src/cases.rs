@@ -8,7 +8,7 @@ use crate::demand3::{Call, Run};
 use crate::images::{self, get64, put32, put64, put_names, put_slots, sheet, version, Row, Slot};
 use crate::images::{frames_to_ask, segments_for, GREATEST_FRAME, GROWING, V1_0, V2_0, V2_1};
 use crate::library::{Create, Library};
-use crate::{old_cases, start_cases};
+use crate::{move_cases, moving, old_cases, start_cases};
 use std::ops::Deref;
 
 /// A library, and the version of the images that it is asked about.
@@ -65,6 +65,7 @@ pub fn all() -> Vec<(String, Test)> {
         (READING, &every[..]),
         (CASES, &both),
         (start_cases::CASES, &both),
+        (move_cases::CASES, &both),
         (old_cases::CASES, &old),
     ] {
         for &(name, case) in cases {
@@ -213,21 +214,23 @@ pub fn nan(name: &[u8]) -> Row {
 /// At every limit the append is refused with this number, and changes no byte.
 pub fn refused(l: &Versioned, image: &[u8], sheet: &[u8], number: u64) {
     for limit in [0, 1, ALL] {
-        let (mut after, mut out) = (image.to_vec(), [0x5555; 2]);
-        assert_eq!((l.append(&mut after, sheet, limit, &mut out), out), (number, [0, 0]));
+        let (mut after, mut out) = (image.to_vec(), [0x5555; 3]);
+        assert_eq!((l.append(&mut after, sheet, limit, &mut out), out), (number, [0; 3]));
         assert!(after == image, "a refusal changes nothing");
     }
 }
 
-/// The append is accepted: no store with limit 0, one with 1, and all of them show the rows' data.
+/// The append is accepted: no store with limit 0, one with 1, and all of them show the rows' data and
+/// whether listed entries were copied.
 pub fn accepted(l: &Versioned, image: &[u8], rows: &[Row]) -> Vec<u8> {
     let sheet = sheet(rows);
     let (same, stores) = l.after(image, &sheet, 0);
-    let whole = stores.unwrap()[1];
-    assert!(stores == Ok([0, whole]) && same == image);
-    assert_eq!(l.after(image, &sheet, 1).1, Ok([1, whole]));
+    let [_, whole, copied] = stores.unwrap();
+    assert!(stores == Ok([0, whole, copied]) && same == image);
+    assert_eq!(l.after(image, &sheet, 1).1, Ok([1, whole, copied]));
     let (after, stores) = l.after(image, &sheet, whole);
-    assert_eq!(stores, Ok([whole, whole]));
+    assert_eq!(stores, Ok([whole, whole, moving::copied(image, &after)]));
+    assert_eq!(stores, Ok([whole, whole, copied]));
     let frame = l.counts(&after).unwrap()[0] - 1;
     for row in rows {
         assert_eq!(l.bytes(&after, frame, &row.name), Ok(&row.data[..]));
@@ -569,12 +572,12 @@ const CASES: &[Case] = &[
     ("worked: sheet A", |l| {
         let image = fresh(l);
         assert_eq!(sheet_a().len(), 37);
-        assert_eq!(l.after(&image, &sheet_a(), ALL).1, Ok([23, 23]));
+        assert_eq!(l.after(&image, &sheet_a(), ALL).1, Ok([23, 23, 0]));
         let (stopped, stores) = l.after(&image, &sheet_a(), 22);
-        assert_eq!(stores, Ok([22, 23]));
+        assert_eq!(stores, Ok([22, 23, 0]));
         assert_eq!(l.counts(&stopped), Ok([0, 1, 0]));
         let (after, stores) = l.after(&image, &sheet_a(), 23);
-        assert_eq!(stores, Ok([23, 23]));
+        assert_eq!(stores, Ok([23, 23, 0]));
         assert_eq!(l.listing(&after), "frames 1 names 1 entries 1\n0 0 9 3 1 384\n");
         assert_eq!(l.bytes(&after, 0, b"probe"), Ok(&PROBE[..]));
         // End of use 448: the next chunk lies there.
@@ -585,7 +588,7 @@ const CASES: &[Case] = &[
         let (image, _) = l.after(&fresh(l), &sheet_a(), ALL);
         assert_eq!(sheet_b().len(), 60);
         let (after, stores) = l.after(&image, &sheet_b(), ALL);
-        assert_eq!(stores, Ok([43, 43]));
+        assert_eq!(stores, Ok([43, 43, 1]));
         assert_eq!([get64(&after, 8), get64(&after, 16)], [576, 4]);
         assert_eq!(
             l.listing(&after),
@@ -596,7 +599,7 @@ const CASES: &[Case] = &[
         let (stopped, _) = l.after(&image, &sheet_b(), 34);
         assert_eq!([get64(&stopped, 8), get64(&stopped, 16)], [576, 2]);
         assert_eq!(l.counts(&stopped), Ok([1, 2, 1]));
-        assert_eq!(l.after(&image[..704], &sheet_b(), ALL).1, Ok([43, 43]));
+        assert_eq!(l.after(&image[..704], &sheet_b(), ALL).1, Ok([43, 43, 1]));
         assert_eq!(l.after(&image[..703], &sheet_b(), ALL).1, Err(29));
     }),
     ("worked: lookups", |l| {
@@ -793,7 +796,7 @@ const CASES: &[Case] = &[
         for length in 384..400 {
             assert_eq!(l.after(&fresh(l)[..length], &sheet_a(), ALL).1, Err(29));
         }
-        assert_eq!(l.after(&fresh(l)[..400], &sheet_a(), ALL).1, Ok([23, 23]));
+        assert_eq!(l.after(&fresh(l)[..400], &sheet_a(), ALL).1, Ok([23, 23, 0]));
     }),
     ("names fit with no spare zero behind them", |l| {
         let stores = |listed: usize, name: &[u8]| {
@@ -812,7 +815,7 @@ const CASES: &[Case] = &[
         let row = sheet(&[Row::bytes(b"a", b"1")]);
         let image = l.blank(512, 256, 0, 256, 0);
         let (after, stores) = l.after(&image, &row, ALL);
-        assert_eq!(stores, Ok([34, 34]));
+        assert_eq!(stores, Ok([34, 34, 0]));
         let header = [8, 16, 24, 32].map(|at| get64(&after, at));
         assert_eq!(header, [448, 2, 320, 2]);
         assert_eq!(l.find(&after, 0, b"a").map(|e| e[2]), Ok(256));
@@ -837,7 +840,7 @@ const CASES: &[Case] = &[
         Slot { location: 0, ..Slot::bytes(7, 7, 0, 7) }.put(&mut image, 288);
         image[327..384].fill(b'x');
         let (after, stores) = l.after(&image, &sheet_b(), ALL);
-        assert_eq!(stores, Ok([43, 43]));
+        assert_eq!(stores, Ok([43, 43, 1]));
         assert!(after[288..320].iter().all(|&byte| byte == 0));
         assert!(after[333..384].iter().all(|&byte| byte == 0));
     }),
@@ -850,13 +853,13 @@ const CASES: &[Case] = &[
         let mut image = listing(l, 512, &[b"sevenab"]);
         image[329..384].fill(0xFF);
         let (stopped, stores) = l.after(&image, &nothing(b"sevenab"), 8 + 1);
-        assert_eq!(stores, Ok([9, 8 + 7 + 4]));
+        assert_eq!(stores, Ok([9, 8 + 7 + 4, 0]));
         assert_eq!(&stopped[320..338], b"sevenab\0\0\0\0\0\0\0\0\0\xFF\xFF");
     }),
     ("a store adds no other name's bytes", |l| {
         let rows = sheet(&[Row::bytes(b"ab", b""), Row::bytes(b"cd", b"")]);
         let image = fresh(l);
-        assert_eq!(l.after(&image, &rows, ALL).1, Ok([26, 26]));
+        assert_eq!(l.after(&image, &rows, ALL).1, Ok([26, 26, 0]));
         assert_eq!(&l.after(&image, &rows, 17).0[320..328], b"ab\0\0\0\0\0\0");
         assert_eq!(&l.after(&image, &rows, 18).0[320..328], b"ab\0cd\0\0\0");
         let image = listing(l, 512, &[b"abcd"]);
@@ -866,16 +869,16 @@ const CASES: &[Case] = &[
         let (second, stores) = l.after(&image, &nothing(b"position"), 18);
         assert_eq!(&second[320..336], b"abcd\0position\0\0\0");
         assert_eq!(l.counts(&second), Ok([0, 2, 0]));
-        assert_eq!(stores, Ok([18, 22]));
+        assert_eq!(stores, Ok([18, 22, 0]));
         // A name of eight bytes on a word: its zero takes no store.
-        assert_eq!(l.after(&fresh(l), &nothing(b"position"), ALL).1, Ok([21, 21]));
+        assert_eq!(l.after(&fresh(l), &nothing(b"position"), ALL).1, Ok([21, 21, 0]));
     }),
     ("tests come before the limit", |l| {
         let image = fresh(l);
-        assert_eq!(l.after(&image, &sheet_a(), 0), (image.clone(), Ok([0, 23])));
+        assert_eq!(l.after(&image, &sheet_a(), 0), (image.clone(), Ok([0, 23, 0])));
         assert_eq!(l.after(&image, &[], 0), (image.clone(), Err(22)));
         assert_eq!(l.after(&image[..399], &sheet_a(), 0).1, Err(29));
-        assert_eq!(l.after(&image, &sheet_a(), 24).1, Ok([23, 23]));
+        assert_eq!(l.after(&image, &sheet_a(), 24).1, Ok([23, 23, 0]));
     }),
     ("a refusal leaves the out array, probes and append set it", |l| {
         let mut image = vec![0; 512];
@@ -891,14 +894,14 @@ const CASES: &[Case] = &[
         let mut one = [BEFORE];
         assert_eq!(l.probes(&image, 0, b"a", &mut one), 3);
         assert_eq!(one, [0]);
-        assert_eq!(l.append(&mut image, b"", ALL, &mut two), 3);
-        assert_eq!(two, [0, 0]);
-        (one, two) = ([BEFORE], [BEFORE; 2]);
+        assert_eq!(l.append(&mut image, b"", ALL, &mut three), 3);
+        assert_eq!(three, [0; 3]);
+        (one, three) = ([BEFORE], [BEFORE; 3]);
         let mut image = fresh(l);
         assert_eq!(l.probes(&image, 0, b"a", &mut one), 40);
         assert_eq!(one, [0]);
-        assert_eq!(l.append(&mut image, b"", ALL, &mut two), 22);
-        assert_eq!(two, [0, 0]);
+        assert_eq!(l.append(&mut image, b"", ALL, &mut three), 22);
+        assert_eq!(three, [0; 3]);
     }),
     ("an empty chunk is a chunk", |l| {
         let (image, _) = l.after(&fresh(l), &nothing(b"a"), ALL);
@@ -1070,8 +1073,9 @@ const CASES: &[Case] = &[
         // 449 entries and 64 more: the index moves, and fewer than half of its slots are free
         // then; where the append is stopped, up to 63 more.
         image = l.after(&image, &sheet(&rows[..1]), ALL).0;
-        let all = l.after(&image, &sheet(&rows), 0).1.unwrap()[1];
+        let [_, all, copied] = l.after(&image, &sheet(&rows), 0).1.unwrap();
         assert_eq!(all, 4 * (512 - 449) + 4 * 1024 + 2 + 4 * 64);
+        assert_eq!(copied, 449);
         for (limit, free) in [(all, 511), (all - 1, 512 + 63)] {
             let moved = l.after(&image, &sheet(&rows), limit).0;
             assert_eq!(get64(&moved, 16), 1024);
@@ -1170,9 +1174,9 @@ const CASES: &[Case] = &[
                 assert_eq!(l.after(&full, &sheet, limit), (full.clone(), Err(31)));
             }
         }
-        let mut out = [0x5555; 2];
+        let mut out = [0x5555; 3];
         assert_eq!(l.append(&mut full.clone(), b"", ALL, &mut out), 31);
-        assert_eq!(out, [0, 0]);
+        assert_eq!(out, [0; 3]);
     }),
     ("31 goes before 28 and after 21", |l| {
         for (frame, numbers) in [(GREATEST_FRAME - 1, [28, 21, 21]), (GREATEST_FRAME, [31, 21, 21])]
@@ -1198,7 +1202,7 @@ const CASES: &[Case] = &[
         let image = entries(l, 1024, &[Slot::bytes(4_294_967_293, 0, 384, 4)]);
         let row = sheet(&[Row::bytes(b"a", b"1")]);
         let (after, stores) = l.after(&image, &row, ALL);
-        assert_eq!(stores, Ok([4 + 8 + 1 + 4; 2]));
+        assert_eq!(stores, Ok([4 + 8 + 1 + 4, 17, 0]));
         assert_eq!(
             l.listing(&after),
             "frames 4294967295 names 1 entries 2\n4294967293 0 1 4 1 384\n4294967294 0 1 1 1 448\n"
@@ -1206,11 +1210,11 @@ const CASES: &[Case] = &[
         assert_eq!(l.after(&after, &row, ALL), (after.clone(), Err(31)));
         for limit in 0..17 {
             let (stopped, stores) = l.after(&image, &row, limit);
-            assert_eq!(stores, Ok([limit, 17]));
+            assert_eq!(stores, Ok([limit, 17, 0]));
             assert_eq!(l.counts(&stopped), Ok([4_294_967_294, 1, 1]));
             assert_eq!(l.find(&stopped, 4_294_967_294, b"a"), Err(40));
             // The same again fits, and no other behind it.
-            assert_eq!(l.after(&stopped, &row, ALL), (after.clone(), Ok([17, 17])));
+            assert_eq!(l.after(&stopped, &row, ALL), (after.clone(), Ok([17, 17, 0])));
         }
     }),
     ("a run of appends ends with frame 4,294,967,294", |l| {
@@ -1448,9 +1452,11 @@ const CASES: &[Case] = &[
         let mut image = fresh(l);
         let mut calls = Vec::new();
         // A stopped after 22 stores takes 22 then.
-        for (good, limit, stores) in
-            [(sheet_a(), 22, [22, 23]), (sheet_a(), ALL, [22, 22]), (sheet_b(), ALL, [43, 43])]
-        {
+        for (good, limit, stores) in [
+            (sheet_a(), 22, [22, 23, 0]),
+            (sheet_a(), ALL, [22, 22, 0]),
+            (sheet_b(), ALL, [43, 43, 1]),
+        ] {
             for (rows, limit) in [(&both[..1], ALL), (&both[..], 0), (&both[1..], 7)] {
                 refused(l, &image, &sheet(rows), 30);
                 calls.push(Call::new(l.version, sheet(rows), limit));
@@ -1487,7 +1493,7 @@ const CASES: &[Case] = &[
     ("a name shown by a stopped append is an existing name", |l| {
         let (stopped, _) = l.after(&fresh(l), &sheet_a(), 22);
         let (after, stores) = l.after(&stopped, &sheet_a(), ALL);
-        assert_eq!(stores, Ok([22, 22]));
+        assert_eq!(stores, Ok([22, 22, 0]));
         assert_eq!(l.listing(&after), "frames 1 names 1 entries 1\n0 0 9 3 1 384\n");
         let mut image = many_names(l, 1023);
         image.resize(image.len() + 65_536, 0);
@@ -1534,7 +1540,7 @@ const CASES: &[Case] = &[
         let (image, _) = l.after(&fresh(l), &nothing(b"a"), ALL);
         // Only zeros over zeros up to the entry.
         let (stopped, stores) = l.after(&image, &nothing(b"a"), 4 + 8);
-        assert_eq!(stores, Ok([12, 16]));
+        assert_eq!(stores, Ok([12, 16, 0]));
         assert_eq!(stopped, image);
     }),
     ("names have any length", |l| {
@@ -1559,11 +1565,11 @@ fn text() -> Row {
 const BETWEEN: &[Between] = &[
     ("worked: the same but for the version", |old, new| {
         let mut images = [fresh(old), fresh(new)];
-        for (sheet, whole) in [(sheet_a(), 23), (sheet_b(), 43)] {
+        for (sheet, whole, copied) in [(sheet_a(), 23, 0), (sheet_b(), 43, 1)] {
             for limit in 0..=whole + 1 {
                 let (a, stores) = old.after(&images[0], &sheet, limit);
                 let (mut b, same) = new.after(&images[1], &sheet, limit);
-                assert_eq!([stores, same], [Ok([limit.min(whole), whole]); 2]);
+                assert_eq!([stores, same], [Ok([limit.min(whole), whole, copied]); 2]);
                 assert_eq!([version(&a), version(&b)], GROWING);
                 assert_eq!(old.listing(&a), new.listing(&b));
                 b[44] = 0;
@@ -1627,7 +1633,7 @@ const BETWEEN: &[Between] = &[
         }
         assert_eq!(sheet(&[text()]).len(), 27);
         let (after, stores) = new.after(&fresh(new), &sheet(&[text()]), ALL);
-        assert_eq!(stores, Ok([8 + 8 + 1 + 1 + 4; 2]));
+        assert_eq!(stores, Ok([8 + 8 + 1 + 1 + 4, 22, 0]));
         assert_eq!(new.listing(&after), "frames 1 names 1 entries 1\n0 0 11 3 1 384\n");
         assert_eq!(new.bytes(&after, 0, b"text"), Ok(&b"abc"[..]));
         assert_eq!(after[44..48], [1, 0, 2, 0]);
@@ -1675,7 +1681,7 @@ const BETWEEN: &[Between] = &[
             let empty = sheet(&[Row::new(b"a", 11, n, m, b"")]);
             assert_eq!(old.after(&fresh(old), &empty, ALL), (fresh(old), Err(24)));
             let (image, stores) = new.after(&fresh(new), &empty, ALL);
-            assert_eq!(stores, Ok([8 + 8 + 1 + 4; 2]));
+            assert_eq!(stores, Ok([8 + 8 + 1 + 4, 21, 0]));
             assert_eq!(new.find(&image, 0, b"a"), Ok([0, n, 384, m.into(), 0, 11, 0]));
             assert_eq!(new.bytes(&image, 0, b"a"), Ok(&b""[..]));
             assert_eq!(new.nth_element(&image, 0, b"a", 0), Err(43));

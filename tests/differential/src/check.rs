@@ -231,8 +231,8 @@ impl<'l> Check<'l> {
         answer
     }
 
-    pub fn append(&mut self, sheet: &[u8], limit: u64) -> Option<[u64; 2]> {
-        let (mut theirs, mut ours) = (Out::<2>::new(), Out::new());
+    pub fn append(&mut self, sheet: &[u8], limit: u64) -> Option<[u64; 3]> {
+        let (mut theirs, mut ours) = (Out::<3>::new(), Out::new());
         self.before.clone_from(&self.ours);
         let lent = self.argument.lend(sheet, self.flush);
         let number = self.library.append(self.theirs.bytes_mut(), lent, limit, &mut theirs.numbers);

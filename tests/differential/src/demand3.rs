@@ -6,6 +6,7 @@ use crate::images::{
     frames_to_ask, get64, holds_nan, lawful_rows, size, Row, GREATEST_FRAME, V1_0,
 };
 use crate::library::Library;
+use crate::moving::{self, Moving};
 use std::collections::BTreeMap;
 
 /// A call of a run: any bytes as a sheet, with the rows of one that is lawful for the run's image
@@ -58,6 +59,8 @@ pub struct Run<'l> {
     frames: BTreeMap<u64, Frame>,
     /// Whether the start has no NaN: then no moment has one.
     free_of_nans: bool,
+    /// The whole appends since the start or the last stop.
+    moving: Moving,
     pub moments: u64,
 }
 
@@ -74,8 +77,15 @@ impl<'l> Run<'l> {
         all.sort();
         all.dedup();
 
-        let frames = BTreeMap::new();
-        let mut run = Run { library, names: all, count, frames, free_of_nans: false, moments: 1 };
+        let mut run = Run {
+            library,
+            names: all,
+            count,
+            frames: BTreeMap::new(),
+            free_of_nans: false,
+            moving: Moving::from(start),
+            moments: 1,
+        };
         let entries = run.entries(start)?;
         run.free_of_nans = !entries.iter().any(|entry| chunk_holds_nan(start, entry));
         for frame in frames_to_ask(&frames_of(&entries), count) {
@@ -98,21 +108,29 @@ impl<'l> Run<'l> {
 
     fn call(&mut self, image: &mut Vec<u8>, call: &Call) -> Result<(), String> {
         let before = image.clone();
-        let stores = self.library.put(image, &call.sheet, call.limit);
+        let mut out = [0x5555; 3];
+        let number = self.library.append(image, &call.sheet, call.limit, &mut out);
         self.entries(image)?;
         let (never, refusals) = call.refusals(&before, self.count > GREATEST_FRAME);
-        let ([done, whole], rows) = match (stores, &call.rows) {
-            (Ok(stores), Some(rows)) if !never => (stores, rows),
-            (Err(_), _) if *image != before => return Err("a refusal wrote".into()),
-            (Err(number), _) if refusals.contains(&number) => return self.same(image),
-            _ => return Err(format!("{stores:?}; if refused, one of {refusals:?}")),
+        let rows = match (number, &call.rows) {
+            (0, Some(rows)) if !never => rows,
+            (1.., _) if *image != before || out != [0; 3] => {
+                return Err(format!("a refusal wrote, or answers {out:?}"));
+            }
+            (1.., _) if refusals.contains(&number) => return self.same(image),
+            _ => return Err(format!("{number} {out:?}; if refused, one of {refusals:?}")),
         };
+        let [done, whole, _] = out;
         if done != whole.min(call.limit) {
             return Err(format!("done {done} of {whole}"));
         }
+        let copied = self.copied(&before, call, out)?;
         let mut last = before.clone();
         for store in 1..=done {
-            let (next, _) = self.library.after(&before, &call.sheet, store);
+            let (next, stores) = self.library.after(&before, &call.sheet, store);
+            if stores != Ok([store, whole, copied]) {
+                return Err(format!("limit {store}: {stores:?}, at {} {out:?}", call.limit));
+            }
             one_word(&last, &next).map_err(|what| format!("store {store}: {what}"))?;
             // Of a long append the ends and every seventh moment.
             if store < 64 || store + 64 > whole || store % 7 == 0 {
@@ -129,12 +147,34 @@ impl<'l> Run<'l> {
         if last != *image {
             return Err("a stop leaves other bytes than the limit".into());
         }
+        if done == whole {
+            self.moving.add(&before, image, copied)?;
+        } else {
+            // What is copied before a stop may be copied again behind it.
+            self.moving = Moving::from(image);
+        }
         // What moves lies on a multiple of 64 then, wherever it was.
         match [8, 24].map(|at| [&before, image].map(|image| get64(image, at))) {
             blocks if blocks.iter().all(|[old, new]| new == old || new.is_multiple_of(64)) => {
                 Ok(())
             }
             blocks => Err(format!("index and names moved off 64: {blocks:?}")),
+        }
+    }
+
+    /// The entries that the call says it copies: those that the whole append does, and the same at limit
+    /// 0, which changes nothing.
+    fn copied(&self, before: &[u8], call: &Call, out: [u64; 3]) -> Result<u64, String> {
+        let (after, _) = self.library.after(before, &call.sheet, u64::MAX);
+        let expected = moving::copied(before, &after);
+        if out[2] != expected {
+            return Err(format!("answers {out:?}, but the whole append copies {expected}"));
+        }
+        match self.library.after(before, &call.sheet, 0) {
+            (same, Ok([0, whole, copied])) if same == before && [whole, copied] == out[1..] => {
+                Ok(copied)
+            }
+            (_, stores) => Err(format!("limit 0: {stores:?}, at {} {out:?}", call.limit)),
         }
     }
 

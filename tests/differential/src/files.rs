@@ -211,14 +211,18 @@ fn grow(library: &dyn Library, file: &[u8]) {
     assert_eq!(stores.is_ok(), aligned && image[44] == 1);
     let sheet = crate::cases::sheet_b();
     let stores = library.after(&image, &sheet, 0).1;
-    let Ok([_, whole]) = stores else {
+    let Ok([_, whole, copied]) = stores else {
         assert!(stores == Err(21) && !aligned);
         return;
     };
     let [frames, names, entries] = library.counts(&image).unwrap();
+    // Two rows more move an index that has fewer slots free.
+    let moves = get64(&image, 16) < entries + 2;
+    assert_eq!(copied, if moves { entries } else { 0 });
     let asked = frames_to_ask(&library.named_frames(&image).unwrap(), frames);
     for limit in [0, 1, whole / 2, whole - 1, whole] {
-        let (after, _) = library.after(&image, &sheet, limit);
+        let (after, stores) = library.after(&image, &sheet, limit);
+        assert_eq!(stores, Ok([limit, whole, copied]));
         assert_eq!(after[44..48], image[44..48]);
         let [new_frames, ..] = library.counts(&after).unwrap();
         assert_eq!(new_frames, frames + u64::from(limit == whole));

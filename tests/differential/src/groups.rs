@@ -6,9 +6,10 @@ use crate::demand3::{Call, Run};
 use crate::generate::{self, Layout};
 use crate::images::{
     blank, frames_to_ask, get64, put32, put64, put_names, put_slots, segments_for, sheet, version,
-    Row, Slot, MAGIC, SEGMENT, V1_0, V2_1, VERSIONS,
+    Row, Slot, GROWING, MAGIC, SEGMENT, V1_0, V2_1, VERSIONS,
 };
 use crate::library::{Create, Library, Reference};
+use crate::moving::{self, Moving};
 use crate::random::Rng;
 
 pub struct Group {
@@ -50,6 +51,7 @@ pub const GROUPS: &[Group] = &[
     group("slices about as long as an append needs", 2000, just_long),
     group("appends to older images", 2000, older),
     group("a run of appends to older images, word for word", 500, older_runs),
+    group("whole appends that move the index", 4000, moves),
 ];
 
 /// Every call once, on whatever the image is.
@@ -184,7 +186,7 @@ fn appends(check: &mut Check, rng: &mut Rng, (image, mut known): (Vec<u8>, Vec<V
     for _ in 0..rng.between(2, 8) {
         let rows = generate::rows(rng, version(&image), &known);
         let limit = generate::limit(rng);
-        if let Some([_, whole]) = check.append(&sheet(&rows), limit) {
+        if let Some([_, whole, _]) = check.append(&sheet(&rows), limit) {
             known.extend(names_of(&rows));
             known.sort();
             known.dedup();
@@ -232,7 +234,7 @@ fn every_limit(check: &mut Check, rng: &mut Rng) {
     let sheet = sheet(&rows);
     known.extend(names_of(&rows));
     check.load(&image);
-    let Some([_, whole]) = check.append(&sheet, 0) else {
+    let Some([_, whole, _]) = check.append(&sheet, 0) else {
         return;
     };
     let mut next = generate::rows(rng, version(&image), &known);
@@ -441,7 +443,7 @@ fn many_rows(check: &mut Check, rng: &mut Rng) {
         let length = rng.below(20_000);
         rows[0] = Row::bytes(b"large", &rng.bytes(length));
         let sheet = sheet(&rows);
-        if let Some([_, whole]) = check.append(&sheet, 0) {
+        if let Some([_, whole, _]) = check.append(&sheet, 0) {
             check.append(&sheet, rng.number() % whole);
             check.append(&sheet, u64::MAX);
         }
@@ -574,7 +576,7 @@ fn longest(check: &mut Check, _: &mut Rng) {
     let library = check.library();
     let mut pair = [vec![0; LONGEST + 1], vec![0; LONGEST + 1]];
     let [theirs, ours] = &mut pair;
-    let both = |check: &mut Check, what: &str, a: (u64, [u64; 2]), b: (u64, [u64; 2])| {
+    let both = |check: &mut Check, what: &str, a: (u64, &[u64]), b: (u64, &[u64])| {
         check.comparisons += 1;
         if a != b {
             check.fail(|| format!("{what} on a long slice: {a:?}, expected {b:?}"));
@@ -592,7 +594,7 @@ fn longest(check: &mut Check, _: &mut Rng) {
         let (theirs, ours) = (&mut theirs[..length], &mut ours[..length]);
         let a = library.create(theirs, request);
         let b = Reference.create(ours, request);
-        both(check, "create", (a, [0; 2]), (b, [0; 2]));
+        both(check, "create", (a, &[]), (b, &[]));
         if theirs[..HEAD] != ours[..HEAD] {
             check.fail(|| "create on a long slice: other bytes".into());
         }
@@ -615,22 +617,23 @@ fn longest(check: &mut Check, _: &mut Rng) {
             }
             let (mut x, mut y) = ([5; 3], [5; 3]);
             let (a, b) = (library.open(theirs, &mut x), Reference.open(ours, &mut y));
-            both(check, "open", (a, [x[0], x[2]]), (b, [y[0], y[2]]));
+            both(check, "open", (a, &x), (b, &y));
             let (mut x, mut y) = ([5; 2], [5; 2]);
             let a = library.chunk(theirs, 0, b"a", &mut x);
             let b = Reference.chunk(ours, 0, b"a", &mut y);
-            both(check, "chunk", (a, x), (b, y));
+            both(check, "chunk", (a, &x), (b, &y));
             let last = (index - 257) as u64;
             let a = library.element(theirs, 0, b"a", last, &mut x);
             let b = Reference.element(ours, 0, b"a", last, &mut y);
-            both(check, "element", (a, x), (b, y));
-            let (mut p, mut q) = ([5], [5]);
-            let a = library.probes(theirs, 0, b"b", &mut p);
-            let b = Reference.probes(ours, 0, b"b", &mut q);
-            both(check, "probes", (a, [p[0], 0]), (b, [q[0], 0]));
+            both(check, "element", (a, &x), (b, &y));
+            let (mut x, mut y) = ([5], [5]);
+            let a = library.probes(theirs, 0, b"b", &mut x);
+            let b = Reference.probes(ours, 0, b"b", &mut y);
+            both(check, "probes", (a, &x), (b, &y));
+            let (mut x, mut y) = ([5; 3], [5; 3]);
             let a = library.append(theirs, &sheet, limit, &mut x);
             let b = Reference.append(ours, &sheet, limit, &mut y);
-            both(check, "append", (a, x), (b, y));
+            both(check, "append", (a, &x), (b, &y));
             if theirs[..HEAD] != ours[..HEAD] || theirs[index - 64..] != ours[index - 64..] {
                 check.fail(|| "append on a long slice: other bytes".into());
             }
@@ -730,6 +733,47 @@ fn run_from(check: &mut Check, rng: &mut Rng, (mut image, known): (Vec<u8>, Vec<
         Ok(moments) => check.moments += moments,
         Err(what) => check.fail(|| what),
     }
+}
+
+/// Whole appends in turn, so that the index moves again and again, and refused ones among them: what
+/// they copy, added up.
+fn moves(check: &mut Check, rng: &mut Rng) {
+    let (mut image, known) = match rng.below(5) {
+        0 | 1 => (generate::growing(rng), Vec::new()),
+        2 => generate::older(rng),
+        3 => {
+            let version = rng.pick(&GROWING);
+            start_of(rng, version)
+        }
+        _ => start(rng),
+    };
+    let room = rng.pick(&[0, 2000, 20_000]);
+    image.extend(rng.bytes(room));
+    check.load(&image);
+    let mut run = Moving::from(&image);
+    for _ in 0..rng.between(3, 30) {
+        let mut rows = match rng.below(8) {
+            0 => generate::border_rows(rng, version(&image), &known),
+            _ => generate::rows(rng, version(&image), &known),
+        };
+        rows.truncate(rng.pick(&[1, 1, 2, 64]));
+        let sheet = match rng.below(8) {
+            0 => generate::damaged_sheet(rng, &rows),
+            _ => sheet(&rows),
+        };
+        check.append(&sheet, 0);
+        let before = check.image().to_vec();
+        // The plain implementation's, with which the library's has been compared.
+        let copied = check.append(&sheet, u64::MAX).map_or(0, |[_, _, copied]| copied);
+        let expected = moving::copied(&before, check.image());
+        if copied != expected {
+            check.fail(|| format!("{copied} entries copied, expected {expected}"));
+        }
+        if let Err(what) = run.add(&before, check.image(), copied) {
+            check.fail(|| what);
+        }
+    }
+    check.open();
 }
 
 /// Name blocks of 1.0, lawful or not; all names that may be read there are asked for.

@@ -134,6 +134,13 @@ pub fn put_slots(image: &mut [u8], at: usize, slots: &[Slot]) {
     }
 }
 
+/// The entries that an image lists: its slots up to the first with location 0.
+pub fn listed(image: &[u8]) -> u64 {
+    let (index, slots) = (get64(image, 8) as usize, get64(image, 16) as usize);
+    let slots = image.get(index..).unwrap_or_default().chunks_exact(32).take(slots);
+    slots.take_while(|slot| get64(slot, 16) != 0).count() as u64
+}
+
 /// What a search must probe that finds nothing in a frame: of 1.0 its entries, and those next to
 /// them; else none of it, and one at least beside the place.
 pub fn around(image: &[u8], entries: u64, frame: u64) -> (u64, u64) {

@@ -1,10 +1,10 @@
 //! The differential tests of libdialmoth.a.
 //!
 //! [`reference`] is document 01 in plain Rust; [`library`] puts it and the archive behind one
-//! trait. Against the paper itself: [`cases`], [`start_cases`] and [`old_cases`], worked out by
-//! hand, [`files`] of the real GSD library and of 1.0, and [`demand3`], the words of "A run of
-//! appends". Against each other: [`check`] makes each call on both, and [`groups`] feed it what
-//! [`generate`] and [`images`] make.
+//! trait. Against the paper itself: [`cases`], [`start_cases`], [`move_cases`] and [`old_cases`],
+//! worked out by hand, [`files`] of the real GSD library and of 1.0, [`demand3`], the words of "A
+//! run of appends", and [`moving`], those of what moving the index costs. Against each other:
+//! [`check`] makes each call on both, and [`groups`] feed it what [`generate`] and [`images`] make.
 
 pub mod ask;
 pub mod cases;
@@ -17,6 +17,8 @@ pub mod images;
 pub mod lent;
 pub mod library;
 pub mod model;
+pub mod move_cases;
+pub mod moving;
 pub mod old_cases;
 pub mod random;
 pub mod reference;

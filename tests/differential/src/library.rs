@@ -3,7 +3,7 @@
 use crate::reference::{self, Answer, Element, Entry, Probes};
 
 /// The result is the number of the refusal, 0 for an answer. A refusal leaves `out` as it was, but
-/// for those of probes and append, which are set at every call: a refused append's to 0 and 0.
+/// for those of probes and append, which are set at every call: a refused append's to three zeros.
 pub trait Library: Sync {
     /// `out`: frames, names, entries.
     fn open(&self, image: &[u8], out: &mut [u64; 3]) -> u64;
@@ -20,8 +20,8 @@ pub trait Library: Sync {
     /// The lookup's number. `out`: entries probed, 0 where no search was made.
     fn probes(&self, image: &[u8], frame: u64, name: &[u8], out: &mut [u64; 1]) -> u64;
     fn create(&self, image: &mut [u8], request: Create) -> u64;
-    /// `out`: done, whole.
-    fn append(&self, image: &mut [u8], sheet: &[u8], limit: u64, out: &mut [u64; 2]) -> u64;
+    /// `out`: done, whole, and the listed entries that the whole append copies as it moves the index.
+    fn append(&self, image: &mut [u8], sheet: &[u8], limit: u64, out: &mut [u64; 3]) -> u64;
 }
 
 /// What create is asked for.
@@ -100,9 +100,9 @@ impl Library for Reference {
             .unwrap_or(0)
     }
 
-    fn append(&self, image: &mut [u8], sheet: &[u8], limit: u64, out: &mut [u64; 2]) -> u64 {
-        *out = [0, 0];
-        give(reference::append(image, sheet, limit).map(|s| [s.done, s.whole]), out)
+    fn append(&self, image: &mut [u8], sheet: &[u8], limit: u64, out: &mut [u64; 3]) -> u64 {
+        *out = [0; 3];
+        give(reference::append(image, sheet, limit).map(|s| [s.done, s.whole, s.copied]), out)
     }
 }
 
@@ -115,34 +115,28 @@ mod linked {
     use super::{Create, Library, Linked};
     use dialmoth::ffi;
 
-    // Pointers and lengths are those of live slices, and every `out` has its call's length.
+    // Pointers and lengths are those of live slices.
     impl Library for Linked {
         fn open(&self, image: &[u8], out: &mut [u64; 3]) -> u64 {
-            unsafe { ffi::dialmoth_open(image.as_ptr(), image.len(), out.as_mut_ptr()) }
+            unsafe { ffi::dialmoth_open(image.as_ptr(), image.len(), out) }
         }
 
         fn name(&self, image: &[u8], n: u64, out: &mut [u64; 2]) -> u64 {
-            unsafe { ffi::dialmoth_name(image.as_ptr(), image.len(), n, out.as_mut_ptr()) }
+            unsafe { ffi::dialmoth_name(image.as_ptr(), image.len(), n, out) }
         }
 
         fn entry(&self, image: &[u8], n: u64, out: &mut [u64; 7]) -> u64 {
-            unsafe { ffi::dialmoth_entry(image.as_ptr(), image.len(), n, out.as_mut_ptr()) }
+            unsafe { ffi::dialmoth_entry(image.as_ptr(), image.len(), n, out) }
         }
 
         fn lookup(&self, image: &[u8], frame: u64, name: &[u8], out: &mut [u64; 7]) -> u64 {
             let (image, length) = (image.as_ptr(), image.len());
-            unsafe {
-                let out = out.as_mut_ptr();
-                ffi::dialmoth_lookup(image, length, frame, name.as_ptr(), name.len(), out)
-            }
+            unsafe { ffi::dialmoth_lookup(image, length, frame, name.as_ptr(), name.len(), out) }
         }
 
         fn chunk(&self, image: &[u8], frame: u64, name: &[u8], out: &mut [u64; 2]) -> u64 {
             let (image, length) = (image.as_ptr(), image.len());
-            unsafe {
-                let out = out.as_mut_ptr();
-                ffi::dialmoth_chunk(image, length, frame, name.as_ptr(), name.len(), out)
-            }
+            unsafe { ffi::dialmoth_chunk(image, length, frame, name.as_ptr(), name.len(), out) }
         }
 
         fn element(
@@ -155,17 +149,13 @@ mod linked {
         ) -> u64 {
             let (image, length) = (image.as_ptr(), image.len());
             unsafe {
-                let out = out.as_mut_ptr();
                 ffi::dialmoth_element(image, length, frame, name.as_ptr(), name.len(), k, out)
             }
         }
 
         fn probes(&self, image: &[u8], frame: u64, name: &[u8], out: &mut [u64; 1]) -> u64 {
             let (image, length) = (image.as_ptr(), image.len());
-            unsafe {
-                let out = out.as_mut_ptr();
-                ffi::dialmoth_probes(image, length, frame, name.as_ptr(), name.len(), out)
-            }
+            unsafe { ffi::dialmoth_probes(image, length, frame, name.as_ptr(), name.len(), out) }
         }
 
         fn create(&self, image: &mut [u8], request: Create) -> u64 {
@@ -184,12 +174,9 @@ mod linked {
             }
         }
 
-        fn append(&self, image: &mut [u8], sheet: &[u8], limit: u64, out: &mut [u64; 2]) -> u64 {
+        fn append(&self, image: &mut [u8], sheet: &[u8], limit: u64, out: &mut [u64; 3]) -> u64 {
             let (image, length) = (image.as_mut_ptr(), image.len());
-            unsafe {
-                let out = out.as_mut_ptr();
-                ffi::dialmoth_append(image, length, sheet.as_ptr(), sheet.len(), limit, out)
-            }
+            unsafe { ffi::dialmoth_append(image, length, sheet.as_ptr(), sheet.len(), limit, out) }
         }
     }
 }

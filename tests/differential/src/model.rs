@@ -6,6 +6,7 @@
 
 use crate::library::{Create, Library};
 use std::collections::BTreeSet;
+use std::ops::Range;
 
 macro_rules! faults {
     ($($fault:ident,)*) => {
@@ -238,6 +239,29 @@ faults! {
     CreateClearsGap,
     CreateNeedsNoGap,
     CreateNeedsNextMultiple,
+    OldSlotsCopied,
+    NewSlotsCopied,
+    SlotsGainedCopied,
+    WordsCopied,
+    BlockWordsCopied,
+    FramesCopied,
+    NamesCopied,
+    NewRowsCopied,
+    LeftoversCopied,
+    EachDoublingCopies,
+    NothingCopied,
+    NotCopiedAtLimitZero,
+    NotCopiedBeforeStep5,
+    NotCopiedUnlessWhole,
+    CopiedByTheStop,
+    CopiedWithNames,
+    CopiedWhereIndexStays,
+    CopiedAndWholeSwapped,
+    RefusedAppendKeepsCopied,
+    RefusedAppendCounts,
+    NoRoomStillCopies,
+    IndexGrowsByNeed,
+    IndexMovesAlways,
 }
 
 pub struct Model {
@@ -411,6 +435,29 @@ struct Row<'s> {
 
 /// A place and the eight bytes stored there.
 type Store = (u128, [u8; 8]);
+
+/// The stores of an append, and which of them are step 5's.
+struct Stores {
+    all: Vec<Store>,
+    /// Empty without that step.
+    step_5: Range<usize>,
+    /// What a hurried builder takes for the entries that are copied.
+    instead: Option<u64>,
+}
+
+/// "The listed entries step 5 copies": the header's words, stored last, say where the new block is,
+/// the others fill it, four to a slot, and "the list ends before the first entry with location 0, or
+/// at the last slot".
+fn copied(step_5: &[Store]) -> usize {
+    let header = |at| step_5.iter().find(|store| store.0 == at).map(|store| number(&store.1, 0, 8));
+    let (Some(block), Some(slots)) = (header(8), header(16)) else {
+        return 0;
+    };
+    let inside = |store: &&Store| (block..block + 32 * slots).contains(&store.0);
+    let words: Vec<Store> = step_5.iter().filter(inside).copied().collect();
+    let (entries, _) = words.as_chunks::<4>();
+    entries.iter().take_while(|entry| entry[2].1 != [0; 8]).count()
+}
 
 impl Model {
     fn has(&self, fault: Fault) -> bool {
@@ -1249,7 +1296,7 @@ impl Model {
     }
 
     /// The list of stores of an append.
-    fn stores(&self, image: &[u8], sheet: &[u8]) -> Verdict<Vec<Store>> {
+    fn stores(&self, image: &[u8], sheet: &[u8]) -> Verdict<Stores> {
         if self.has(Fault::ThirtyBeforeOpening) && self.sheet_holds_nan(sheet) {
             return Err(30);
         }
@@ -1353,6 +1400,9 @@ impl Model {
         let spare = usize::from(self.has(Fault::FitNeedsSpareZero) && new_bytes > 0);
         let needed = (view.list_end + new_bytes + spare) as u128;
         let doubled = |old: u128, unit: u128, needed: u128| {
+            if unit == 32 && self.has(Fault::IndexGrowsByNeed) {
+                return needed.div_ceil(unit);
+            }
             let mut count =
                 if self.has(Fault::ZeroDoublesToOne) && old == 0 { 1 } else { old.max(1) * 2 };
             while unit * count < needed && !self.has(Fault::NotDoubledOften) {
@@ -1373,7 +1423,8 @@ impl Model {
         });
         let listed = view.entries.len();
         let needed = 32 * (listed + rows.len()) as u128;
-        let new_index = (needed > 32 * view.slots || must_move(view.index)).then(|| {
+        let must_move = must_move(view.index) || self.has(Fault::IndexMovesAlways);
+        let new_index = (needed > 32 * view.slots || must_move).then(|| {
             let start = self.start(position, Start::Index, &view);
             gaps.push(self.gap(position, start, false));
             let count = doubled(view.slots, 32, needed);
@@ -1481,6 +1532,7 @@ impl Model {
         }
 
         // 5
+        let before_5 = stores.len();
         let mut index = view.index;
         if let Some(block) = new_index {
             stores.extend(gaps.next().unwrap());
@@ -1492,6 +1544,7 @@ impl Model {
             header(&mut stores, 8, block);
             index = block.0;
         }
+        let step_5 = before_5..stores.len();
 
         // 6
         let mut order: Vec<usize> = (0..rows.len()).collect();
@@ -1518,7 +1571,58 @@ impl Model {
                 stores.push((at, word_at(&entry, word)));
             }
         }
-        Ok(stores)
+        let instead = self.copied_instead(image, &view, rows.len(), new_name_block, new_index);
+        Ok(Stores { all: stores, step_5, instead })
+    }
+
+    /// What is counted in place of [`copied`], given the blocks, start and count, to which the append
+    /// moves the names and the index.
+    fn copied_instead(
+        &self,
+        image: &[u8],
+        view: &View,
+        rows: usize,
+        names: Option<(u128, u128)>,
+        index: Option<(u128, u128)>,
+    ) -> Option<u64> {
+        let listed = view.entries.len() as u128;
+        let location = |slot| Listed::at(image, (view.index + 32 * slot) as usize).location;
+        let count = match (self.fault?, index) {
+            (Fault::CopiedWithNames, None) if names.is_some() => listed,
+            (Fault::CopiedWhereIndexStays, None) => listed,
+            (_, None) => return None,
+            (Fault::OldSlotsCopied, _) => view.slots,
+            (Fault::NewSlotsCopied, Some((_, slots))) => slots,
+            (Fault::SlotsGainedCopied, Some((_, slots))) => slots - view.slots,
+            (Fault::WordsCopied, _) => 4 * listed,
+            (Fault::BlockWordsCopied, Some((_, slots))) => 4 * slots,
+            (Fault::FramesCopied, _) => view.frames,
+            (Fault::NamesCopied, _) => view.names.len() as u128,
+            (Fault::NewRowsCopied, _) => listed + rows as u128,
+            (Fault::LeftoversCopied, _) => {
+                (0..view.slots).filter(|&slot| location(slot) != 0).count() as u128
+            }
+            (Fault::EachDoublingCopies, Some((_, slots))) => {
+                listed * u128::from((slots / view.slots.max(1)).ilog2())
+            }
+            (Fault::NothingCopied, _) => 0,
+            _ => return None,
+        };
+        Some(count as u64)
+    }
+
+    /// "The listed entries step 5 copies in the whole append, at any limit."
+    fn copied(&self, stores: &Stores, limit: u64) -> u64 {
+        let Stores { all, step_5, instead } = stores;
+        let made = limit.min(all.len() as u64) as usize;
+        let count = instead.unwrap_or(copied(&all[step_5.clone()]) as u64);
+        match self.fault {
+            Some(Fault::NotCopiedAtLimitZero) if limit == 0 => 0,
+            Some(Fault::NotCopiedBeforeStep5) if made <= step_5.start => 0,
+            Some(Fault::NotCopiedUnlessWhole) if made < all.len() => 0,
+            Some(Fault::CopiedByTheStop) => count.min(made.saturating_sub(step_5.start) as u64 / 4),
+            _ => count,
+        }
     }
 
     /// "Each with its exact bits."
@@ -1688,12 +1792,22 @@ impl Library for Model {
         0
     }
 
-    fn append(&self, image: &mut [u8], sheet: &[u8], limit: u64, out: &mut [u64; 2]) -> u64 {
+    fn append(&self, image: &mut [u8], sheet: &[u8], limit: u64, out: &mut [u64; 3]) -> u64 {
         if !self.has(Fault::RefusedAppendKeepsOut) {
-            *out = [0, 0];
+            let kept = self.has(Fault::RefusedAppendKeepsCopied);
+            *out = [0, 0, if kept { out[2] } else { 0 }];
         }
         let stores = match self.stores(image, sheet) {
             Ok(stores) => stores,
+            Err(number) if self.has(Fault::RefusedAppendCounts) => {
+                out[2] = self.view(image).map_or(0, |view| view.entries.len() as u64);
+                return number;
+            }
+            Err(29) if self.has(Fault::NoRoomStillCopies) => {
+                let longer = [&*image, &[0; 1 << 16]].concat();
+                out[2] = self.stores(&longer, sheet).map_or(0, |all| self.copied(&all, limit));
+                return 29;
+            }
             Err(_) if limit == 0 && self.has(Fault::LimitBeforeTests) => return 0,
             Err(20) if limit == 0 && self.has(Fault::TwentyNotAtLimitZero) => return 0,
             Err(20) if self.has(Fault::TwentyUpgrades) => {
@@ -1705,10 +1819,11 @@ impl Library for Model {
             }
             Err(number) => return number,
         };
-        let whole = stores.len() as u64;
+        let whole = stores.all.len() as u64;
+        let copied = self.copied(&stores, limit);
         let mut done = 0;
         let mut changed = 0;
-        for (at, word) in stores {
+        for (at, word) in stores.all {
             let at = at as usize;
             if done < limit || limit > 0 && self.has(Fault::AllStoresAtOnce) {
                 match image.get_mut(at..at + 8) {
@@ -1725,7 +1840,10 @@ impl Library for Model {
         if done > 0 && self.has(Fault::AppendMakes2_1) {
             image[44] = 1;
         }
-        *out = [done.min(limit), whole];
+        *out = [done.min(limit), whole, copied];
+        if self.has(Fault::CopiedAndWholeSwapped) {
+            out.swap(1, 2);
+        }
         if self.has(Fault::DoneCountsChanges) {
             out[0] = changed;
         }

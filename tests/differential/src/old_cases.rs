@@ -563,6 +563,6 @@ pub const CASES: &[Case] = &[
         let request = Create { application, schema, schema_version: 0, slots: 2, segments: 1 };
         assert_eq!(l.create(&mut image, request), 0);
         assert_eq!(image[44..48], [1, 0, 2, 0]);
-        assert_eq!(l.after(&image, &sheet_a(), ALL).1, Ok([23, 23]));
+        assert_eq!(l.after(&image, &sheet_a(), ALL).1, Ok([23, 23, 0]));
     }),
 ];

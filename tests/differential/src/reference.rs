@@ -1,5 +1,5 @@
-//! Document 01 in plain Rust, with what document 02 has changed of it (W-201 to W-206 and W-211),
-//! written from the papers alone.
+//! Document 01 in plain Rust, with what document 02 has changed of it (W-201 to W-206, W-211
+//! and W-214), written from the papers alone.
 //!
 //! It is the independent second opinion of the differential tests and the baseline of the
 //! benchmark: a refusal is `Err` with its number, and nothing else is shared with the library.
@@ -62,6 +62,8 @@ pub struct Probes {
 pub struct Stores {
     pub done: u64,
     pub whole: u64,
+    /// Listed entries that the whole append copies where it moves the index, whatever the limit.
+    pub copied: u64,
 }
 
 fn u32_at(bytes: &[u8], at: usize) -> u32 {
@@ -703,6 +705,11 @@ impl<'s> Plan<'s> {
         })
     }
 
+    /// The listed entries that step 5 copies, where there is one.
+    fn copied(&self) -> u64 {
+        self.moved_index.map_or(0, |_| self.entries as u64)
+    }
+
     /// Makes the stores, in the paper's six steps.
     fn store(&self, to: &mut Writer) {
         to.clear(self.index.start + SLOT * self.entries, self.index.end);
@@ -824,5 +831,5 @@ pub fn append(image: &mut [u8], sheet: &[u8], limit: u64) -> Answer<Stores> {
     let mut writer = Writer { image, limit, whole: 0 };
     plan.store(&mut writer);
     let whole = writer.whole;
-    Ok(Stores { done: limit.min(whole), whole })
+    Ok(Stores { done: limit.min(whole), whole, copied: plan.copied() })
 }

@@ -74,8 +74,8 @@ fn places(l: &Versioned, image: &[u8], frame: u64, rows: &[Row]) -> Vec<u64> {
 /// Just so many bytes are needed.
 fn needs(l: &Versioned, image: &[u8], sheet: &[u8], length: usize) {
     refused(l, &image[..length - 1], sheet, 29);
-    let whole = l.after(image, sheet, 0).1.unwrap()[1];
-    assert_eq!(l.after(&image[..length], sheet, ALL).1, Ok([whole, whole]));
+    let [_, whole, copied] = l.after(image, sheet, 0).1.unwrap();
+    assert_eq!(l.after(&image[..length], sheet, ALL).1, Ok([whole, whole, copied]));
 }
 
 /// The same in both versions that take appends.
@@ -149,7 +149,7 @@ pub const CASES: &[Case] = &[
         let image = over_pattern(l, 1024, 2, 1);
         for limit in 0..=23 {
             let (stopped, stores) = l.after(&image, &sheet_a(), limit);
-            assert_eq!(stores, Ok([limit, 23]));
+            assert_eq!(stores, Ok([limit, 23, 0]));
             kept(&stopped, &[(400, 1024)]);
         }
         let (image, _) = l.after(&image, &sheet_a(), ALL);
@@ -158,7 +158,7 @@ pub const CASES: &[Case] = &[
         assert_eq!(image[396..400], [0; 4]);
         for limit in 0..=43 {
             let (stopped, stores) = l.after(&image, &sheet_b(), limit);
-            assert_eq!(stores, Ok([limit, 43]));
+            assert_eq!(stores, Ok([limit, 43, 1]));
             kept(&stopped, &[(400, 448), (464, 512), (520, 576), (704, 1024)]);
         }
         let (after, _) = l.after(&image, &sheet_b(), ALL);
@@ -220,7 +220,7 @@ pub const CASES: &[Case] = &[
                 let image = over_pattern(l, end + 64, slots, segments as u64);
                 let (after, stores) = l.after(&image, &sheet_a(), ALL);
                 let whole = 4 * slots + 8 * segments as u64 + 2 + 1 + 4;
-                assert_eq!(stores, Ok([whole; 2]));
+                assert_eq!(stores, Ok([whole, whole, 0]));
                 assert_eq!(l.find(&after, 0, b"probe").map(|e| e[2]), Ok(end as u64));
                 kept(&after, &[gap, (end + 16, end + 64)]);
             }
@@ -234,7 +234,7 @@ pub const CASES: &[Case] = &[
         // A free slot, 7 words from the one with the 13th byte of the names on, data, an entry.
         for limit in 0..=17 {
             let (stopped, stores) = l.after(&image, &sheet_a(), limit);
-            assert_eq!(stores, Ok([limit, 4 + 7 + 2 + 4]));
+            assert_eq!(stores, Ok([limit, 4 + 7 + 2 + 4, 0]));
             keeps_older(l, &stopped);
         }
         let (after, _) = l.after(&image, &sheet_a(), ALL);
@@ -244,7 +244,7 @@ pub const CASES: &[Case] = &[
         needs(l, &image, &sheet_a(), 592);
         // 6 entries: chunks at 640 and 704, 8 slots at 768.
         let (last, stores) = l.after(&after, &sheet_b(), ALL);
-        assert_eq!(stores, Ok([7 + 3 + 34 + 8; 2]));
+        assert_eq!(stores, Ok([7 + 3 + 34 + 8, 52, 4]));
         let added = "2 0 9 3 1 576\n3 0 9 3 1 640\n3 1 1 1 1 704\n";
         let (_, chunks) = listing.split_once('\n').unwrap();
         assert_eq!(l.listing(&last), format!("frames 4 names 2 entries 6\n{chunks}{added}"));

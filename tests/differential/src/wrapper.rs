@@ -1,13 +1,14 @@
 //! The safe Rust calls of the package dialmoth say what the C functions say.
 
 use crate::ask::Ask;
+use crate::cases::{sheet_a, sheet_b};
 use crate::generate::{self, Layout};
 use crate::images::{
     blank, frames_to_ask, put32, put_names, sheet, size, version, Slot, GREATEST_FRAME, V1_0,
 };
 use crate::library::Linked;
 use crate::random::Rng;
-use dialmoth::{Element, Refusal, Row, Type};
+use dialmoth::{Element, Refusal, Row, Stores, Type};
 
 const TYPES: [Type; 11] = [
     Type::U8,
@@ -70,6 +71,7 @@ pub fn hold() {
     frames_run_out();
     nans_are_refused();
     old_files_take_none();
+    copies_are_counted();
 }
 
 fn appends(rng: &mut Rng, image: &mut [u8], known: &mut Vec<Vec<u8>>) {
@@ -90,7 +92,7 @@ fn appends(rng: &mut Rng, image: &mut [u8], known: &mut Vec<Vec<u8>>) {
         let limit = generate::limit(rng);
         let (after, stores) = Linked.after(image, &sheet, limit);
         let done = dialmoth::append(image, &sheet, limit).map_err(number);
-        assert_eq!(done.map(|s| [s.done, s.whole]), stores);
+        assert_eq!(done.map(|s| [s.done, s.whole, s.copied]), stores);
         assert_eq!(*image, after);
         known.extend(rows.into_iter().map(|row| row.name).take(4));
     }
@@ -158,7 +160,7 @@ fn nans_are_refused() {
         Row { kind: Type::Double, n: 0, data: b"", ..probe },
     ] {
         let stores = dialmoth::append(&mut image, &dialmoth::sheet(&[row]), u64::MAX);
-        assert!(stores.is_ok_and(dialmoth::Stores::is_whole));
+        assert!(stores.is_ok_and(Stores::is_whole));
     }
 }
 
@@ -173,4 +175,15 @@ fn old_files_take_none() {
         }
     }
     assert_eq!(image, before);
+}
+
+fn copies_are_counted() {
+    let mut image = blank(1024, 256, 2, 320, 1);
+    for (sheet, whole, copied) in [(sheet_a(), 23, 0), (sheet_b(), 43, 1)] {
+        for done in [0, 1, whole] {
+            let stores = dialmoth::append(&mut image.clone(), &sheet, done);
+            assert_eq!(stores, Ok(Stores { done, whole, copied }));
+        }
+        assert!(dialmoth::append(&mut image, &sheet, u64::MAX).is_ok_and(Stores::is_whole));
+    }
 }

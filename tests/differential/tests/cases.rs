@@ -22,10 +22,10 @@ fn older_images_are_made_as_document_01_has_them() {
     for version in GROWING {
         let earlier = Versioned { library: &EARLIER, version };
         let mut image = over_pattern(&earlier, 1024, 2, 1);
-        for (sheet, whole, end) in [(sheet_a(), 23, 400), (sheet_b(), 43, 552)] {
+        for (sheet, whole, copied, end) in [(sheet_a(), 23, 0, 400), (sheet_b(), 43, 1, 552)] {
             assert_eq!(earlier.after(&image[..end - 1], &sheet, 0).1, Err(29));
-            assert_eq!(earlier.after(&image[..end], &sheet, 0).1, Ok([0, whole]));
-            assert_eq!(earlier.put(&mut image, &sheet, u64::MAX), Ok([whole; 2]));
+            assert_eq!(earlier.after(&image[..end], &sheet, 0).1, Ok([0, whole, copied]));
+            assert_eq!(earlier.put(&mut image, &sheet, u64::MAX), Ok([whole, whole, copied]));
         }
         assert_eq!(image, older(&earlier));
         let names = earlier.fresh(352, 1, 1).map(|image| image[24..32].to_vec());

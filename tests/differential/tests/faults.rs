@@ -177,6 +177,69 @@ fn a_run_of_appends_to_older_images_notices_what_breaks_it() {
     run_notices("a run of appends to older images, word for word", &faults);
 }
 
+/// Wrong counts of what is copied.
+const OF_COPIES: [Fault; 21] = {
+    use Fault::*;
+    [
+        OldSlotsCopied,
+        NewSlotsCopied,
+        SlotsGainedCopied,
+        WordsCopied,
+        BlockWordsCopied,
+        FramesCopied,
+        NamesCopied,
+        NewRowsCopied,
+        LeftoversCopied,
+        EachDoublingCopies,
+        NothingCopied,
+        NotCopiedAtLimitZero,
+        NotCopiedBeforeStep5,
+        NotCopiedUnlessWhole,
+        CopiedByTheStop,
+        CopiedWithNames,
+        CopiedWhereIndexStays,
+        CopiedAndWholeSwapped,
+        RefusedAppendKeepsCopied,
+        RefusedAppendCounts,
+        NoRoomStillCopies,
+    ]
+};
+
+/// By a run's own images and answers.
+#[test]
+fn a_run_of_appends_notices_what_is_not_copied() {
+    run_notices("a run of appends, word for word", &OF_COPIES);
+}
+
+/// The same by whole appends alone, beside the plain implementation.
+#[test]
+fn whole_appends_notice_what_is_not_copied() {
+    run_notices("whole appends that move the index", &OF_COPIES);
+}
+
+/// An index that grows otherwise breaks the bounds of what is copied in all, though each append
+/// answers what it copies.
+#[test]
+fn a_run_of_appends_adds_up_what_is_copied() {
+    let row = sheet(&[Row::bytes(b"a", b"")]);
+    let noticed = |fault: Option<Fault>, count: usize| {
+        let start = blank(4096, 256, 1, 320, 1);
+        let calls: Vec<_> = (0..count).map(|_| Call::new(V2_1, row.clone(), u64::MAX)).collect();
+        Run::make(&Model { fault }, &start, &calls).map(drop)
+    };
+    assert_eq!(noticed(None, 9), Ok(()));
+    // To 2 slots and to 3: the third append copies 2 entries, where the second copied 1.
+    let by_need = Some(Fault::IndexGrowsByNeed);
+    assert_eq!(noticed(by_need, 2), Ok(()));
+    let what = noticed(by_need, 3).unwrap_err();
+    assert!(what.contains("3 entries copied in all, slots from 1 to 3"), "{what}");
+    // 1 + 2 + 3 + 4 entries, as many as twice those listed; the slots go from 1 to 32.
+    let always = Some(Fault::IndexMovesAlways);
+    assert_eq!(noticed(always, 4), Ok(()));
+    let what = noticed(always, 5).unwrap_err();
+    assert!(what.contains("10 entries copied in all, 5 listed at the end"), "{what}");
+}
+
 /// What an append lets into the record is noticed there, whatever it answers.
 #[test]
 fn a_run_of_appends_finds_a_nan_in_the_record() {

@@ -34,12 +34,25 @@ whole-requires c κs =
     (append-ready (carried (plan-append .plan-append .ensures) (if1 .if1 .left)
     (λ i. omega (arith, slice-known .slice-known .given i)) (λ i. omega (arith, shared-slice-known .shared-slice-known .given i))))
 
+slice-aggregate-copied : tie.Need-slice-aggregate-copied
+slice-aggregate-copied c = search needs
+
+copied-requires : tie.Need-copied-requires
+copied-requires c κs =
+    let if1 = c .before .before .before in
+    let plan-append = if1 .before .before in
+    let shared-slice-known = plan-append .before .before .before in
+    let slice-known = shared-slice-known .before in
+    ready-half _ _ _ (search needs)
+    (append-ready (carried (plan-append .plan-append .ensures) (if1 .if1 .left)
+    (λ i. omega (arith, slice-known .slice-known .given i)) (λ i. omega (arith, shared-slice-known .shared-slice-known .given i))))
+
 slice-aggregate-turn : tie.Need-slice-aggregate-turn
 slice-aggregate-turn c = search needs
 
 turn-requires : tie.Need-turn-requires
 turn-requires c κs =
-    let if1 = c .before .before .before .before in
+    let if1 = c .before .before .before .before .before .before in
     let plan-append = if1 .before .before in
     let shared-slice-known = plan-append .before .before .before in
     let slice-known = shared-slice-known .before in (
@@ -54,14 +67,15 @@ same-length-2 c = search needs
 returns-2 : tie.Need-returns-2
 returns-2 c =
     let turn = c .before .before in
-    let whole = turn .before .before .before in
+    let copied = turn .before .before .before in
+    let whole = copied .before .before in
     let if1 = whole .before .before in
     let plan-append = if1 .before .before in
     let shared-slice-known = plan-append .before .before .before in
     let slice-known = shared-slice-known .before in
     let carries = carried (plan-append .plan-append .ensures) (if1 .if1 .left)
     (λ i. omega (arith, slice-known .slice-known .given i)) (λ i. omega (arith, shared-slice-known .shared-slice-known .given i)) in
-    search (needs, accepted-append carries _ _ _ _ (whole .whole .ensures) (turn .turn .ensures))
+    search (needs, accepted-append carries _ _ _ _ _ (whole .whole .ensures) (copied .copied .ensures) (turn .turn .ensures))
 
 pub append-spec : {M : Type 1} → statement M
 append-spec =
@@ -73,6 +87,8 @@ append-spec =
     returns
     slice-aggregate-whole
     whole-requires
+    slice-aggregate-copied
+    copied-requires
     slice-aggregate-turn
     turn-requires
     same-length-2
