@@ -5,24 +5,27 @@
  * An image is a whole slice of memory lent by the caller, from 256 to
  * 1,073,741,824 bytes; a file's content, or a region laid out beforehand that
  * is longer than what is used. No call keeps a pointer, allocates, locks, or
- * touches anything but its arguments, and there is no state between calls: any
+ * touches anything but its arguments, and the library has no state between calls
+ * (that of an append in turns is the caller's, an argument like the others): any
  * thread may call, and several at once where none writes what another uses.
  *
  * The archive is for x86-64 (System V), for C and C++, and takes memcpy and
  * memset from the C library, nothing else. Beside what these two use, the stack
- * needs at most 9 KiB for a reading call, 13 KiB for append, 1 KiB for create.
+ * needs at most 9 KiB for a reading call, 13 KiB for append, 16 KiB for begin,
+ * 11 KiB for turn, 1 KiB for create.
  *
  * Every call answers a number: 0, or that of the refusal, listed below with its
  * name and its text. A refusal changes nothing, neither the image nor out; only
- * append and probes set their out at every call, a refused append to three zeros.
+ * append, begin, turn and probes set their out at every call, the first three to
+ * zeros when refused, and a refused begin sets its state to zeros as well.
  *
  * Opening costs at most some passes over the image's bytes, whatever it holds,
  * but for names made on purpose to have one 32-bit fingerprint: these are
- * compared pair by pair (1,024 such names of 64 KiB: seconds, at every call).
+ * compared pair by pair (1,024 such names of 64 KiB: seconds, each time).
  *
  * Pointers are never null, not even with length 0; bytes may lie at any address.
- * What a call writes, the image of create and append and every out, overlaps no
- * other argument.
+ * What a call writes, the image of create, append and turn, the state and every
+ * out, overlaps no other argument.
  */
 #ifndef DIALMOTH_H
 #define DIALMOTH_H
@@ -37,8 +40,8 @@ extern "C" {
 /* The refusals, R(number, name, text) for each: refused exactly when the text
  * holds. The first that applies is answered. */
 #define DIALMOTH_REFUSALS(R)                                                                    \
-    /* Opening, in this order; every call but create opens first. Tests 12 to 18 run            \
-     * entry by entry: the first bad entry decides, and in it the lowest number. */             \
+    /* Opening, in this order; every call but create and turn opens first. Tests 12 to 18       \
+     * run entry by entry: the first bad entry decides, and in it the lowest number. */         \
     R(1, DIALMOTH_SHORT_IMAGE, "image under 256 bytes")                                         \
     R(2, DIALMOTH_LONG_IMAGE, "image over 1,073,741,824 bytes")                                 \
     R(3, DIALMOTH_WRONG_MAGIC, "wrong magic")                                                   \
@@ -59,7 +62,7 @@ extern "C" {
     R(16, DIALMOTH_CHUNK_OUTSIDE, "a chunk ends beyond the image")                              \
     R(17, DIALMOTH_CHUNK_IN_BLOCK, "a chunk shares a byte with a block")                        \
     R(18, DIALMOTH_LARGE_FRAME, "an entry's frame above 4,294,967,294")                         \
-    /* Append, in this order. */                                                                \
+    /* Append and begin, in this order. */                                                      \
     R(20, DIALMOTH_OLD_IMAGE, "the image is of version 1.0")                                    \
     R(21, DIALMOTH_UNALIGNED_BLOCK, "index or name location not a multiple of 8")               \
     R(31, DIALMOTH_FRAMES_FULL, "the last frame is 4,294,967,294")                              \
@@ -73,6 +76,9 @@ extern "C" {
     R(30, DIALMOTH_NAN_IN_SHEET, "a float or double of the sheet is a NaN")                     \
     R(28, DIALMOTH_NAMES_FULL, "names would pass 1,024")                                        \
     R(29, DIALMOTH_NO_ROOM, "the append would pass the image's end")                            \
+    /* Turn. */                                                                                 \
+    R(32, DIALMOTH_NOT_EXPECTED,                                                                \
+      "a refused begin's state, or a length or header words 8 to 32 not as it expects")         \
     /* Lookup, chunk, element and probes, in this order. */                                     \
     R(40, DIALMOTH_NO_FRAME, "frame not below the number of frames")                            \
     R(41, DIALMOTH_NO_NAME, "name not listed")                                                  \
@@ -217,6 +223,8 @@ uint64_t dialmoth_create(uint8_t *image, size_t image_length,
  * The frame is there once the last store is made, and not before: after a stop
  * every older frame reads as it did, and the same append may be made again. (A
  * block that was moved before the stop stays moved, so it may take more room.)
+ * It is dialmoth_begin and one dialmoth_turn joined. Where there is no time for an
+ * opening and all stores at once, call these two, below.
  * Every chunk of the new frame, an empty one too, and every block that the append
  * moves starts at a multiple of 64, counted from the image's start: lend an image
  * that itself lies at such an address where the memory wants them there. Bytes
@@ -255,6 +263,62 @@ uint64_t dialmoth_create(uint8_t *image, size_t image_length,
 uint64_t dialmoth_append(uint8_t *image, size_t image_length,
                          const uint8_t *sheet, size_t sheet_length,
                          uint64_t limit, uint64_t out[3]);
+
+/* An append in turns, for a caller that has 200 microseconds at a time: begin, then
+ * a turn in each free moment, until as many stores are made as begin has said.
+ *
+ * The premise of both calls: from begin to the last turn nothing else, no other
+ * append either, writes image or sheet; pass each turn the image and the sheet of
+ * the begin, and the state that the last call gave back. Reading between turns is
+ * free, and so are calls that store nothing.
+ * Under it turns leave every byte as one dialmoth_append does whose limit is the sum
+ * of theirs, be it above UINT64_MAX, and make as many stores. So between two turns
+ * the image is as after a stopped append: all older frames read as they did, and
+ * after a cut of power there, with the state lost, the append is begun anew. A cut
+ * inside a turn is not covered, as it is not inside an append.
+ *
+ * A state is plain words without a pointer, 3,248 bytes. It may be kept, copied and
+ * handed to another thread, but it is good for this image and sheet alone, and what
+ * its words say is not told. */
+#define DIALMOTH_STATE_WORDS 406
+
+/* Begins: tests all that dialmoth_append tests, with its numbers in its order, and
+ * makes no store. It opens the image and takes the time of that, however few stores
+ * follow: over 100 microseconds with 40,000 entries.
+ * state, set at every call: the append before its first store; all zeros when
+ * refused, and every turn refuses these.
+ * out, set at every call: stores of the whole append, and the listed entries that it
+ * copies where it moves the index; two zeros when refused. */
+uint64_t dialmoth_begin(const uint8_t *image, size_t image_length,
+                        const uint8_t *sheet, size_t sheet_length,
+                        uint64_t state[DIALMOTH_STATE_WORDS], uint64_t out[2]);
+
+/* Makes the next stores of the append that the state is of, `limit` of them or all
+ * that are left where these are fewer, and sets the state for the turn after it.
+ * The image is not opened: beside its stores a turn takes a time that grows with the
+ * sheet's rows and not with the image. Of one store, on one machine, some 0.2
+ * microseconds were seen with three rows and up to 2 with 64. A store moves or clears
+ * eight bytes; take a limit that the memory can do in the time there is.
+ * out, set at every call: stores that this turn made. The frame is there once these
+ * counts add up to the whole that begin has said, and not before. A turn after that
+ * makes none, and is not refused for it.
+ * The only refusal is DIALMOTH_NOT_EXPECTED, exactly when the state is a refused
+ * begin's, or the length of the image or of the sheet is not that of the begin, or
+ * one of the four header words at 8, 16, 24 and 32, places and sizes of index and
+ * names, is not what the append's own stores have left so far; with any limit, with
+ * 0 too, and after the last store too. Image and state then stay as they are, and
+ * out is 0. Nothing else is compared, magic and versions neither.
+ * So it does not see all that breaks the premise: another whole append that moves no
+ * block leaves these words as they were, and a turn of the older state stores over
+ * that frame.
+ * A turn is safe without the premise. Any words may be passed as a state: no byte
+ * outside of image and sheet is touched, and the answer is 0 or this refusal. With a
+ * state that begin or turn gave, whatever image and sheet hold by now, stores go only
+ * to words of that append's own, their places fixed at begin; but what is stored
+ * there may be anything. */
+uint64_t dialmoth_turn(uint64_t state[DIALMOTH_STATE_WORDS], uint8_t *image,
+                       size_t image_length, const uint8_t *sheet,
+                       size_t sheet_length, uint64_t limit, uint64_t out[1]);
 
 #ifdef __cplusplus
 }

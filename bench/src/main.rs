@@ -17,37 +17,51 @@ use std::hint::black_box;
 use std::path::Path;
 use std::time::{Duration, Instant};
 use std::{env, fs, process};
-use work::{Day, Large, Moves, Next, Stored};
+use work::{joined, pair, Day, Large, Moves, Next, Stored, Turns};
 
 /// Each row's times are medians of so many passes over the table.
 const PASSES: usize = 7;
 
-/// So long for each row of a pass, both sides in turn; three times as long for work in parts.
+/// So long for each row of a pass, the sides alternating; three times as long for work in parts.
 const TIME: Duration = Duration::from_millis(500);
 
 /// A row that may take longer is timed again only where it did not.
 const LONG: Duration = Duration::from_millis(250);
 
+/// What stands beside an append by begin and one turn.
+const SINGLE: &str = "the same by the single call";
+
 /// What one side does, given the number of the part.
 type Side<'a, S> = &'a mut dyn FnMut(&mut S, usize);
 
 /// The best time of each side. Work in parts has the sum of each part's best: no machine leaves
-/// work of many milliseconds alone. `prepare` goes before the first part and is not timed. Each
-/// side goes first as often as the others.
+/// work of many milliseconds alone.
 fn best<S>(
+    state: &mut S,
+    prepare: impl FnMut(&mut S),
+    parts: usize,
+    sides: &mut [Side<S>],
+) -> Vec<Duration> {
+    let best = best_of_parts(state, prepare, parts, sides);
+    best.iter().map(|parts| parts.iter().sum()).collect()
+}
+
+/// The best time of each part of each side. `prepare` goes before the first part and is not timed.
+/// Each side goes first as often as the others.
+fn best_of_parts<S>(
     state: &mut S,
     mut prepare: impl FnMut(&mut S),
     parts: usize,
     sides: &mut [Side<S>],
-) -> Vec<Duration> {
+) -> Vec<Vec<Duration>> {
     let mut best = vec![vec![Duration::MAX; parts]; sides.len()];
     // Calls that are short beside the clock's own time are timed many at a time.
     let mut calls = 1;
     let time = if parts > 1 { 3 * TIME } else { TIME };
     let start = Instant::now();
     for round in 0.. {
-        for turn in 0..sides.len() {
-            let side = (round + turn) % sides.len();
+        for place in 0..sides.len() {
+            let side = (round + place) % sides.len();
             prepare(state);
             for part in 0..parts {
                 let begin = Instant::now();
@@ -68,7 +82,7 @@ fn best<S>(
             break;
         }
     }
-    best.iter().map(|parts| parts.iter().sum()).collect()
+    best
 }
 
 fn time_text(time: Duration) -> String {
@@ -89,7 +103,8 @@ struct Row {
     key: &'static str,
     library: Duration,
     other: Duration,
-    /// Whether the two are one work done twice; a small difference of large times has no ratio.
+    /// Whether the two are one work done twice; a small difference of large times has no ratio, and
+    /// the slowest of many works has none.
     compared: bool,
 }
 
@@ -136,13 +151,17 @@ impl Pass<'_> {
         times[0]
     }
 
+    /// A row of times that have no ratio.
+    fn apart(&mut self, what: &'static str, library: Duration, other: Duration) {
+        self.rows.push(Row { what, key: "", library, other, compared: false });
+    }
+
     /// A row, and one of what the same work takes beyond opening its image: times of library
     /// and plain Rust, then of their openings.
     fn beyond_opening(&mut self, what: &'static str, times: &[Duration]) {
         self.row(what, "", times[0], times[1]);
         let [library, other] = [0, 1].map(|side| times[side].saturating_sub(times[side + 2]));
-        let what = "the same, less the time of opening it";
-        self.rows.push(Row { what, key: "", library, other, compared: false });
+        self.apart("the same, less the time of opening it", library, other);
     }
 
     /// A reading call.
@@ -255,7 +274,7 @@ fn opening(pass: &mut Pass) {
     }
 }
 
-/// Many names and many entries, in 1.0 and in 2.1, in turn.
+/// Many names and many entries, in 1.0 and in 2.1, alternating.
 fn both_lists(pass: &mut Pass) {
     let (library, old, new) =
         (pass.library, work::month_of_names(V1_0), work::month_of_names(V2_1));
@@ -279,8 +298,22 @@ fn days(pass: &mut Pass) {
     pass.reading("element, 4,320 entries", "", |l| element(l, &day.image, 700));
     let what = "all 4,320 chunks of a day";
     pass.both(what, "read_day", &mut day, |_| {}, work::FRAMES, |day, l, n| day.read(l, n));
-    let what = "append 1,440 frames of 3 chunks in turn";
-    pass.both(what, "append_day", &mut day, Day::clear, work::FRAMES, |day, l, n| day.append(l, n));
+    appends(pass, &mut day);
+}
+
+/// A day's appends, the pair and the single call.
+fn appends(pass: &mut Pass, day: &mut Day) {
+    let library = pass.library;
+    let sides: &mut [Side<Day>] = &mut [
+        &mut |day, n| day.append(pair, library, n),
+        &mut |day, n| day.append(pair, &Reference, n),
+        &mut |day, n| day.append(joined, library, n),
+        &mut |day, n| day.append(joined, &Reference, n),
+    ];
+    let times = best(day, Day::clear, work::FRAMES, sides);
+    let what = "append 1,440 frames of 3 chunks, one by one";
+    pass.row(what, "append_day", times[0], times[1]);
+    pass.row(SINGLE, "", times[2], times[3]);
 }
 
 /// A chunk of the last of many frames.
@@ -301,25 +334,89 @@ fn search(pass: &mut Pass, what: &'static str, month: Vec<u8>) {
 fn next(pass: &mut Pass, what: &'static str, mut next: Next) {
     let library = pass.library;
     let sides: &mut [Side<Next>] = &mut [
-        &mut |next, _| next.append(library),
-        &mut |next, _| next.append(&Reference),
+        &mut |next, _| next.append(pair, library),
+        &mut |next, _| next.append(pair, &Reference),
         &mut |next, _| next.open(library),
         &mut |next, _| next.open(&Reference),
+        &mut |next, _| next.append(joined, library),
+        &mut |next, _| next.append(joined, &Reference),
     ];
     let times = best(&mut next, Next::restore, 1, sides);
     pass.beyond_opening(what, &times);
+    pass.row(SINGLE, "", times[4], times[5]);
+}
+
+/// The same frame begun, and then made in one turn and in turns of one store.
+fn turns(pass: &mut Pass, whats: [&'static str; 4], whole: u64, next: Next) {
+    pass.reading(whats[0], "", |library| {
+        next.begin(library);
+    });
+    let mut turns = Turns::new(next, [pass.library, &Reference]);
+    assert_eq!(turns.whole, whole);
+    let sides: &mut [Side<Turns>] =
+        &mut [&mut |turns, _| turns.all(0, whole), &mut |turns, _| turns.all(1, whole)];
+    let times = best(&mut turns, |_| {}, 1, sides);
+    pass.row(whats[1], "", times[0], times[1]);
+
+    let sides: &mut [Side<Turns>] =
+        &mut [&mut |turns, _| turns.all(0, 1), &mut |turns, _| turns.all(1, 1)];
+    let times = best(&mut turns, |_| {}, 1, sides);
+    pass.row(whats[2], "", times[0] / whole as u32, times[1] / whole as u32);
+
+    let sides: &mut [Side<Turns>] =
+        &mut [&mut |turns, _| turns.turn(0, 1), &mut |turns, _| turns.turn(1, 1)];
+    let times = best_of_parts(&mut turns, Turns::restart, whole as usize, sides);
+    let [library, other] = [0, 1].map(|side: usize| *times[side].iter().max().unwrap());
+    pass.apart(whats[3], library, other);
+}
+
+/// Turns of one store between turns of many, of an append that moves names and index; of the former
+/// the slowest.
+fn moving_turns(pass: &mut Pass) {
+    const MANY: u64 = 996;
+    let mut turns = Turns::new(Next::moving(), [pass.library, &Reference]);
+    let parts = 2 * (turns.whole / (MANY + 1)) as usize;
+    let limit = |part| if part % 2 == 0 { 1 } else { MANY };
+    let sides: &mut [Side<Turns>] =
+        &mut [&mut |turns, part| turns.turn(0, limit(part)), &mut |turns, part| {
+            turns.turn(1, limit(part))
+        }];
+    let times = best_of_parts(&mut turns, Turns::restart, parts, sides);
+    let [library, other] = [0, 1].map(|side: usize| *times[side].iter().step_by(2).max().unwrap());
+    pass.apart("the slowest where 64 names are new and names and index move", library, other);
+}
+
+fn all_turns(pass: &mut Pass) {
+    let whats = [
+        "begin a frame of 3 chunks behind 40,000 entries",
+        "one turn of all its 57 stores",
+        "a turn of one store, mean of all 57",
+        "the slowest of these",
+    ];
+    turns(pass, whats, 57, Next::fitting());
+    let whats = [
+        "begin a frame of 64 chunks behind 40,000 entries",
+        "one turn of all its 576 stores",
+        "a turn of one store, mean of all 576",
+        "the slowest of these",
+    ];
+    turns(pass, whats, 576, Next::of_most());
+    moving_turns(pass);
 }
 
 /// A chunk of 1 MiB, beside plain Rust and beside memcpy.
 fn large(pass: &mut Pass, whats: [&'static str; 2], key: &'static str, mut large: Large) {
     let library = pass.library;
     let sides: &mut [Side<Large>] = &mut [
-        &mut |large, _| large.append(library),
-        &mut |large, _| large.append(&Reference),
+        &mut |large, _| large.append(pair, library),
+        &mut |large, _| large.append(pair, &Reference),
         &mut |large, _| large.copy(),
+        &mut |large, _| large.append(joined, library),
+        &mut |large, _| large.append(joined, &Reference),
     ];
     let times = best(&mut large, Large::restore, 1, sides);
     pass.row(whats[0], key, times[0], times[1]);
+    pass.row(SINGLE, "", times[3], times[4]);
     pass.row(whats[1], "", times[0], times[2]);
 }
 
@@ -340,6 +437,7 @@ fn pass(library: &dyn Library, first: Option<&[Row]>) -> Vec<Row> {
     search(&mut pass, "lookup 1.0, 40,000 entries", work::old_month());
     next(&mut pass, "append a frame of 3 chunks behind 40,000 entries", Next::fitting());
     next(&mut pass, "append a frame of 3 chunks, 65,536 slots", Next::doubled());
+    all_turns(&mut pass);
     large_chunks(&mut pass);
     pass.rows
 }
@@ -355,16 +453,17 @@ fn grouped(number: u64) -> String {
 /// What appends store: exact numbers, the same on every machine.
 fn stores() {
     let (library, _) = library();
-    println!("Stores of whole appends, eight bytes each; frames in turn begin with create, 64 slots and 16 segments.\n");
+    println!("Stores of whole appends, eight bytes each; frames one by one begin with create, 64 slots and 16 segments.\n");
     println!(
         "| append | stores | bytes stored | bytes of data | bytes of the longest image in use |"
     );
     println!("|---|---|---|---|---|");
     let rows = [
         ("a frame of 3 chunks behind 40,000 entries", Next::fitting().stored(library)),
+        ("a frame of 64 chunks behind 40,000 entries", Next::of_most().stored(library)),
         ("a frame of 3 chunks, 65,536 slots", Next::doubled().stored(library)),
-        ("1,440 frames of 3 chunks in turn", Day::of_three().stored(library, 1440, 64)),
-        ("1,440 frames of 4 chunks in turn", Day::of_four().stored(library, 1440, 64)),
+        ("1,440 frames of 3 chunks, one by one", Day::of_three().stored(library, 1440, 64)),
+        ("1,440 frames of 4 chunks, one by one", Day::of_four().stored(library, 1440, 64)),
         ("the same, 0 slots asked for: 512", Day::of_four().stored(library, 1440, 0)),
         ("1,440 frames of 4 chunks, 60 to an image", Day::of_four().stored(library, 60, 64)),
         ("the same, 0 slots asked for: 512", Day::of_four().stored(library, 60, 0)),
@@ -425,7 +524,7 @@ fn moves() {
 fn table(real: HashMap<String, f64>) {
     let (library, title) = library();
     let gsd = if real.is_empty() { "real GSD" } else { "gsd.fl" };
-    println!("Library: {title}. Medians of {PASSES} passes, in each the best times of both sides in turn.\n");
+    println!("Library: {title}. Medians of {PASSES} passes, in each the best times of both sides, alternating.\n");
     println!("| | library | plain Rust | ratio | least to most | {gsd} |");
     println!("|---|---|---|---|---|---|");
     let mut passes = vec![pass(library, None)];
@@ -435,8 +534,14 @@ fn table(real: HashMap<String, f64>) {
     print(&passes, &real);
 
     println!();
-    println!("Every call opens its image first: a lookup among 4,320 entries reads them all, and");
-    println!("some once more in its search. That among 40,000 is of their last frame.");
+    println!(
+        "Every call but a turn opens its image first: a lookup among 4,320 entries reads them"
+    );
+    println!("all, and some once more in its search. That among 40,000 is of their last frame.");
+    println!(
+        "An append is begin and one turn, and beside it the single call. The slowest turn has"
+    );
+    println!("the clock's own time in it; where blocks move, each 997th store is looked at.");
     println!("A day's time is the sum of each frame's best; its appends begin with create.");
     println!(
         "Buffers: reading calls find image and caches warm. The day's image is cleared before"

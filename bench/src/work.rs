@@ -7,7 +7,7 @@ use differential::images::{
     blank, get64, lawful_rows, put32, put_names, put_slots, segments_for, sheet, version, Row,
     Slot, V1_0, V2_1,
 };
-use differential::library::{Create, Library, Reference};
+use differential::library::{Create, Library, Reference, State, REFUSED};
 use std::hint::black_box;
 
 pub const FRAMES: usize = 1440;
@@ -134,7 +134,7 @@ pub fn small() -> Vec<u8> {
     let mut image = vec![0; 8192];
     create(&Reference, &mut image, SLOTS);
     for _ in 0..8 {
-        append(&Reference, &mut image, &frame(0));
+        pair(&Reference, &mut image, &frame(0));
     }
     image
 }
@@ -145,13 +145,37 @@ fn create(library: &dyn Library, image: &mut [u8], slots: u64) {
     assert_eq!(library.create(image, request), 0);
 }
 
-/// Appends a sheet whole, and answers its stores and the entries that it copied.
-fn append(library: &dyn Library, image: &mut [u8], sheet: &[u8]) -> [u64; 2] {
+/// A way to append a sheet whole. Answers its stores and the entries that it copied.
+pub type Way = fn(&dyn Library, &mut [u8], &[u8]) -> [u64; 2];
+
+/// Begin and one turn.
+pub fn pair(library: &dyn Library, image: &mut [u8], sheet: &[u8]) -> [u64; 2] {
+    let (mut state, mut begun) = (REFUSED, [0; 2]);
+    assert_eq!(library.begin(image, sheet, &mut state, &mut begun), 0);
+    assert_eq!(turn(library, &mut state, image, sheet, u64::MAX), begun[0]);
+    begun
+}
+
+/// The single call.
+pub fn joined(library: &dyn Library, image: &mut [u8], sheet: &[u8]) -> [u64; 2] {
     let mut out = [0; 3];
     assert_eq!(library.append(image, sheet, u64::MAX, &mut out), 0);
     let [done, whole, copied] = out;
     assert_eq!(done, whole);
     [whole, copied]
+}
+
+/// Answers the stores that this turn made.
+fn turn(
+    library: &dyn Library,
+    state: &mut State,
+    image: &mut [u8],
+    sheet: &[u8],
+    limit: u64,
+) -> u64 {
+    let mut made = [0];
+    assert_eq!(library.turn(state, image, sheet, limit, &mut made), 0);
+    made[0]
 }
 
 fn readings(minute: usize) -> [[u8; 4]; 3] {
@@ -190,10 +214,10 @@ pub struct Stored {
 
 impl Stored {
     /// Adds the append of one sheet, and makes no store.
-    fn add(&mut self, library: &dyn Library, image: &mut [u8], sheet: &[u8]) {
-        let mut out = [0; 3];
-        assert_eq!(library.append(image, sheet, 0, &mut out), 0);
-        self.stores += out[1];
+    fn add(&mut self, library: &dyn Library, image: &[u8], sheet: &[u8]) {
+        let (mut state, mut begun) = (REFUSED, [0; 2]);
+        assert_eq!(library.begin(image, sheet, &mut state, &mut begun), 0);
+        self.stores += begun[0];
         let rows = lawful_rows(sheet, version(image)).unwrap();
         self.data += rows.iter().map(|row| row.data.len() as u64).sum::<u64>();
     }
@@ -213,7 +237,7 @@ impl Day {
     /// The whole day, of three chunks a frame.
     pub fn new() -> Day {
         let mut day = Day::of_three();
-        (0..FRAMES).for_each(|minute| day.append(&Reference, minute));
+        (0..FRAMES).for_each(|minute| day.append(pair, &Reference, minute));
         day
     }
 
@@ -231,8 +255,8 @@ impl Day {
         for sheets in self.sheets.chunks(frames) {
             create(library, &mut self.image, slots);
             for sheet in sheets {
-                stored.add(library, &mut self.image, sheet);
-                append(library, &mut self.image, sheet);
+                stored.add(library, &self.image, sheet);
+                pair(library, &mut self.image, sheet);
             }
             let opens = |part: &[u8]| library.open(part, &mut [0; 3]) == 0;
             stored.used = stored.used.max(shortest(&self.image, opens));
@@ -245,11 +269,11 @@ impl Day {
     }
 
     /// Appends one frame; before the first the image is made.
-    pub fn append(&mut self, library: &dyn Library, minute: usize) {
+    pub fn append(&mut self, way: Way, library: &dyn Library, minute: usize) {
         if minute == 0 {
             create(library, &mut self.image, SLOTS);
         }
-        append(library, &mut self.image, &self.sheets[minute]);
+        way(library, &mut self.image, &self.sheets[minute]);
     }
 
     /// Reads the three chunks of one frame.
@@ -285,7 +309,7 @@ impl Moves {
         create(library, &mut image, slots);
         let mut moves = Moves { times: 0, slots: [slots; 2], entries: 0, copied: 0, stores: 0 };
         for minute in 0..MINUTES {
-            let [stores, copied] = append(library, &mut image, &frame(minute));
+            let [stores, copied] = pair(library, &mut image, &frame(minute));
             moves.stores += stores;
             moves.copied += copied;
             let now = get64(&image, 16);
@@ -300,41 +324,64 @@ impl Moves {
     }
 }
 
-/// A month's image with free slots, and a frame of three small rows for the first of them.
+/// A month's image with free slots, and a frame of small rows for the first of them.
 pub struct Next {
     image: Vec<u8>,
     sheet: Vec<u8>,
+    rows: usize,
 }
 
 impl Next {
-    fn new(slots: usize) -> Next {
-        let names = [3, 7, 11].map(|n| format!("probe/{n:02}/reading"));
-        let rows = names.map(|name| Row::bytes(name.as_bytes(), b"reading."));
-        Next { image: month_and(slots - ENTRIES), sheet: sheet(&rows) }
+    fn new(image: Vec<u8>, names: &[String]) -> Next {
+        let rows: Vec<_> =
+            names.iter().map(|name| Row::bytes(name.as_bytes(), b"reading.")).collect();
+        Next { image, sheet: sheet(&rows), rows: rows.len() }
     }
 
-    /// As many slots as the frame takes.
+    fn of_three(slots: usize) -> Next {
+        let names = [3, 7, 11].map(|n| format!("probe/{n:02}/reading"));
+        Next::new(month_and(slots - ENTRIES), &names)
+    }
+
+    /// As many slots as the frame of three rows takes.
     pub fn fitting() -> Next {
-        Next::new(ENTRIES + 3)
+        Next::of_three(ENTRIES + 3)
     }
 
     /// As many slots as doubling gives: step 1 of each append clears all free ones.
     pub fn doubled() -> Next {
-        Next::new(65_536)
+        Next::of_three(65_536)
+    }
+
+    /// A frame of as many rows as a sheet can have, and as many slots as it takes. Their names are
+    /// listed, and each frame before it has a quarter of them.
+    pub fn of_most() -> Next {
+        let names = probes(64);
+        let there = |frame, id| u64::from(id / 16) == frame % 4;
+        Next::new(index(V2_1, &names, there, names.len()), &names)
+    }
+
+    /// A frame of as many rows, all of new names of the greatest length, and no free slot: names and
+    /// index move.
+    pub fn moving() -> Next {
+        let mut image = month();
+        image.resize(image.len() + (8 << 20), 0);
+        let names: Vec<_> = (0..64).map(|n| format!("{n:0>255}")).collect();
+        Next::new(image, &names)
     }
 
     /// The slots as they were before the append.
     pub fn restore(&mut self) {
-        self.image[256 + 32 * ENTRIES..][..96].fill(0);
+        self.image[256 + 32 * ENTRIES..][..32 * self.rows].fill(0);
     }
 
-    pub fn append(&mut self, library: &dyn Library) {
-        append(library, black_box(&mut self.image), black_box(&self.sheet));
+    pub fn append(&mut self, way: Way, library: &dyn Library) {
+        way(library, black_box(&mut self.image), black_box(&self.sheet));
     }
 
-    pub fn stored(mut self, library: &dyn Library) -> Stored {
+    pub fn stored(self, library: &dyn Library) -> Stored {
         let mut stored = Stored::default();
-        stored.add(library, &mut self.image, &self.sheet);
+        stored.add(library, &self.image, &self.sheet);
         stored
     }
 
@@ -342,6 +389,63 @@ impl Next {
         let mut out = [0; 3];
         assert_eq!(library.open(black_box(&self.image), &mut out), 0);
         assert_eq!(black_box(out)[2], ENTRIES as u64);
+    }
+
+    /// Answers the state and the stores of the whole append.
+    pub fn begin(&self, library: &dyn Library) -> (State, u64) {
+        let (mut state, mut begun) = (REFUSED, [0; 2]);
+        let (image, sheet) = (black_box(&self.image), black_box(&self.sheet));
+        assert_eq!(library.begin(image, sheet, &mut state, &mut begun), 0);
+        black_box((state, begun[0]))
+    }
+}
+
+/// An append in turns. Where it moves no block, a turn of an older state is not refused and makes its
+/// stores again.
+pub struct Turns<'l> {
+    next: Next,
+    /// Its image's, as before the append.
+    header: [u8; 256],
+    sides: [Begun<'l>; 2],
+    /// Stores of the whole append.
+    pub whole: u64,
+}
+
+/// What one side has begun, and how far it is.
+struct Begun<'l> {
+    library: &'l dyn Library,
+    begun: State,
+    state: State,
+}
+
+impl<'l> Turns<'l> {
+    pub fn new(next: Next, libraries: [&'l dyn Library; 2]) -> Turns<'l> {
+        let (_, whole) = next.begin(libraries[0]);
+        let sides = libraries.map(|library| {
+            let (begun, _) = next.begin(library);
+            Begun { library, begun, state: begun }
+        });
+        let header = next.image[..256].try_into().unwrap();
+        Turns { next, header, sides, whole }
+    }
+
+    /// The next turn of a side.
+    pub fn turn(&mut self, side: usize, limit: u64) {
+        let Begun { library, state, .. } = &mut self.sides[side];
+        let (image, sheet) = (black_box(&mut self.next.image), black_box(&self.next.sheet));
+        assert_eq!(turn(*library, state, image, sheet, limit), limit);
+    }
+
+    /// Both sides go back to their beginning, and the header does.
+    pub fn restart(&mut self) {
+        self.next.image[..256].copy_from_slice(&self.header);
+        self.sides.iter_mut().for_each(|side| side.state = side.begun);
+    }
+
+    /// The whole append of a side, in turns of so many stores.
+    pub fn all(&mut self, side: usize, limit: u64) {
+        self.sides[side].state = self.sides[side].begun;
+        (0..self.whole / limit).for_each(|_| self.turn(side, limit));
     }
 }
 
@@ -383,8 +487,8 @@ impl Large {
         self.image[..self.fresh.len()].copy_from_slice(&self.fresh);
     }
 
-    pub fn append(&mut self, library: &dyn Library) {
-        append(library, black_box(&mut self.image), black_box(&self.sheet));
+    pub fn append(&mut self, way: Way, library: &dyn Library) {
+        way(library, black_box(&mut self.image), black_box(&self.sheet));
     }
 
     /// The chunk's bytes alone, from the sheet to the same place.

@@ -77,25 +77,26 @@ static size_t make_sheet(uint8_t sheet[128], const float *probe, const uint8_t *
 
 /*
  * Appends a frame of what there is; a frame of nothing is none. Readings that hold a NaN are refused
- * and left out: the frame then has no chunk of them. Makes at most `limit` stores; answers whether
- * the frame is there.
+ * and left out: the frame then has no chunk of them. All is done in one turn of at most `limit`
+ * stores (turns.c makes more of them); answers whether the frame is there.
  */
 static int append_frame(const float *probe, const uint8_t *duty, uint64_t limit)
 {
     uint8_t sheet[128];
-    uint64_t stores[3], number;
+    uint64_t state[DIALMOTH_STATE_WORDS], begun[2], made[1], number;
     size_t length = make_sheet(sheet, probe, duty);
 
     if (probe == NULL && duty == NULL)
         return 0;
-    number = dialmoth_append(image, sizeof image, sheet, length, limit, stores);
+    number = dialmoth_begin(image, sizeof image, sheet, length, state, begun);
     if (number == DIALMOTH_NAN_IN_SHEET) {
         printf("append: a reading is a NaN\n");
         return append_frame(NULL, duty, limit);
     }
-    must("append", number);
-    printf("append: %" PRIu64 " of %" PRIu64 " stores\n", stores[0], stores[1]);
-    return stores[0] == stores[1];
+    must("begin", number);
+    must("turn", dialmoth_turn(state, image, sizeof image, sheet, length, limit, made));
+    printf("append: %" PRIu64 " of %" PRIu64 " stores\n", made[0], begun[0]);
+    return made[0] == begun[0];
 }
 
 /* The duty of the last frame. That there is none is an answer of its own, and not a number. */
@@ -148,14 +149,14 @@ int main(int count, char **words)
     append_frame(evening, NULL, UINT64_MAX);
     print_last_duty();
 
-    /* An append is stopped after ten stores: the last frame reads as before. */
+    /* An append stops after ten stores, and its state is lost: the last frame reads as before. */
     if (append_frame(night, &more, 10))
         return 1;
     print_last_duty();
     if (count > 1)
         save(words[1]);
 
-    /* The same append is made again, and now to its end. */
+    /* The same append is begun again, and now made to its end. */
     if (!append_frame(night, &more, UINT64_MAX))
         return 1;
     print_last_duty();

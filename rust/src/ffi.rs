@@ -3,6 +3,9 @@
 //! A slice is a pointer and a length; no pointer is null. The result is the number of the refusal, 0
 //! for an answer.
 
+/// Words of the state of an append in turns.
+pub const STATE_WORDS: usize = 406;
+
 extern "C" {
     /// `out`: frames, names, entries.
     pub fn dialmoth_open(image: *const u8, image_length: usize, out: *mut [u64; 3]) -> u64;
@@ -76,5 +79,27 @@ extern "C" {
         sheet_length: usize,
         limit: u64,
         out: *mut [u64; 3],
+    ) -> u64;
+
+    /// `out`, set at every call: stores of the whole append, listed entries that the whole append
+    /// copies; two zeros when refused. The state is set at every call too, when refused to zeros.
+    pub fn dialmoth_begin(
+        image: *const u8,
+        image_length: usize,
+        sheet: *const u8,
+        sheet_length: usize,
+        state: *mut [u64; STATE_WORDS],
+        out: *mut [u64; 2],
+    ) -> u64;
+
+    /// `out`, set at every call: stores that this turn made, 0 when refused.
+    pub fn dialmoth_turn(
+        state: *mut [u64; STATE_WORDS],
+        image: *mut u8,
+        image_length: usize,
+        sheet: *const u8,
+        sheet_length: usize,
+        limit: u64,
+        out: *mut [u64; 1],
     ) -> u64;
 }

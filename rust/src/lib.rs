@@ -7,10 +7,14 @@
 //! let mut image = vec![0; 4096];
 //! dialmoth::create(&mut image, b"regulator", b"night", 0, 64, 16)?;
 //! let sheet = dialmoth::sheet(&[Row { name: b"heater", kind: Type::U8, n: 1, m: 1, data: &[40] }]);
-//! assert!(dialmoth::append(&mut image, &sheet, u64::MAX)?.is_whole());
+//! let mut begun = dialmoth::begin(&image, &sheet)?;
+//! dialmoth::turn(&mut begun.state, &mut image, &sheet, u64::MAX)?;
 //! assert_eq!(dialmoth::element(&image, 0, b"heater", 0)?, Element::Unsigned(40));
 //! # Ok::<(), dialmoth::Refusal>(())
 //! ```
+//!
+//! An append is begun and then made in one turn or many, as there is time; [`append`] is the two in one
+//! call.
 //!
 //! What is not there is a refusal and never a stand-in value: [`Refusal::NO_CHUNK`] says that a
 //! frame has no such chunk. A frame may be empty: go from entry to entry, not from frame to frame.
@@ -26,6 +30,7 @@ extern crate alloc;
 pub mod ffi;
 mod refusal;
 
+use core::fmt;
 pub use refusal::Refusal;
 
 /// The type of a chunk's elements.
@@ -163,6 +168,33 @@ impl Stores {
     }
 }
 
+/// An append that is begun, and has made no store.
+#[derive(Debug)]
+pub struct Begun {
+    /// Stores of the whole append. The frame is there once its turns have made so many, and not
+    /// before.
+    pub whole: u64,
+    /// As [`Stores::copied`].
+    pub copied: u64,
+    /// What the first turn takes.
+    pub state: State,
+}
+
+/// How far an append in turns is: what [`begin`] gives and each [`turn`] takes and moves on.
+///
+/// It is plain numbers, 3,248 bytes of them, and holds neither image nor sheet: between turns both
+/// are free to be read. It is good for these two alone.
+///
+/// It cannot be copied. A turn must take the state that the last one left, and one of an older copy
+/// may not be refused: it would make its stores a second time, over what has come since.
+pub struct State([u64; ffi::STATE_WORDS]);
+
+impl fmt::Debug for State {
+    fn fmt(&self, f: &mut fmt::Formatter<'_>) -> fmt::Result {
+        f.debug_struct("State").finish_non_exhaustive()
+    }
+}
+
 fn answer<const K: usize>(call: impl FnOnce(*mut [u64; K]) -> u64) -> Result<[u64; K], Refusal> {
     let mut out = [0; K];
     match call(&mut out) {
@@ -272,8 +304,8 @@ pub fn create(
 }
 
 /// Makes the first `limit` stores of the append of a sheet's chunks as one new frame; its number is
-/// the number of frames so far. The image keeps its version, and one of 2.0 refuses a character
-/// ([`Refusal::BAD_ROW`]).
+/// the number of frames so far. It is [`begin`] and one [`turn`] joined. The image keeps its version,
+/// and one of 2.0 refuses a character ([`Refusal::BAD_ROW`]).
 ///
 /// Its chunks, empty ones too, and the blocks that it moves start at multiples of 64, counted from
 /// the image's start; bytes between are not stored. What lies elsewhere in the image stays there.
@@ -288,6 +320,64 @@ pub fn append(image: &mut [u8], sheet: &[u8], limit: u64) -> Result<Stores, Refu
         ffi::dialmoth_append(image.0, image.1, sheet.as_ptr(), sheet.len(), limit, out)
     })?;
     Ok(Stores { done, whole, copied })
+}
+
+/// Begins an append in turns, for a caller that has little time at once: tests all that [`append`]
+/// tests, with its refusals, and makes no store. It takes the time of opening the image.
+///
+/// From here to the last turn nothing else, no other append either, may write image or sheet. Turns
+/// then leave every byte as one append does whose limit is the sum of theirs, and between two of them
+/// the image is as after a stopped append. After a cut of power there the state is lost and the
+/// append is begun anew:
+///
+/// ```
+/// use dialmoth::{Refusal, Row, Type};
+///
+/// let mut image = vec![0; 4096];
+/// dialmoth::create(&mut image, b"regulator", b"night", 0, 8, 1)?;
+/// let sheet = dialmoth::sheet(&[Row { name: b"heater", kind: Type::U8, n: 1, m: 1, data: &[40] }]);
+///
+/// let mut begun = dialmoth::begin(&image, &sheet)?;
+/// assert_eq!(dialmoth::turn(&mut begun.state, &mut image, &sheet, 10)?, 10);
+/// drop(begun); // the power is cut
+/// assert_eq!(dialmoth::open(&image)?.frames, 0);
+///
+/// let mut begun = dialmoth::begin(&image, &sheet)?;
+/// let mut made = 0;
+/// while made < begun.whole {
+///     assert_eq!(dialmoth::open(&image)?.frames, 0);
+///     made += dialmoth::turn(&mut begun.state, &mut image, &sheet, 10)?;
+/// }
+/// assert_eq!(dialmoth::open(&image)?.frames, 1);
+/// # Ok::<(), Refusal>(())
+/// ```
+pub fn begin(image: &[u8], sheet: &[u8]) -> Result<Begun, Refusal> {
+    let mut state = State([0; ffi::STATE_WORDS]);
+    let [whole, copied] = answer(|out| unsafe {
+        let (image, sheet) = ((image.as_ptr(), image.len()), (sheet.as_ptr(), sheet.len()));
+        ffi::dialmoth_begin(image.0, image.1, sheet.0, sheet.1, &mut state.0, out)
+    })?;
+    Ok(Begun { whole, copied, state })
+}
+
+/// Makes the next `limit` stores of a begun append, or all that are left where these are fewer, and
+/// answers how many; after the last one 0. The image is not opened: beside its stores a turn takes a
+/// time that grows with the sheet's rows and not with the image.
+///
+/// Refused, with [`Refusal::NOT_EXPECTED`] and nothing changed, exactly when the length of image or
+/// sheet is not that of the begin, or the header's words for places and sizes of index and names (the
+/// four at 8, 16, 24 and 32) are not what the append's own stores have left. That does not see all
+/// that breaks what [`begin`] asks for: another whole append that moves no block leaves them as they
+/// were, and a turn then stores over its frame.
+///
+/// Whatever image and sheet hold, stores go only to words of that append's own, their places fixed at
+/// the beginning; what is stored there may then be anything.
+pub fn turn(state: &mut State, image: &mut [u8], sheet: &[u8], limit: u64) -> Result<u64, Refusal> {
+    let [made] = answer(|out| unsafe {
+        let (image, sheet) = ((image.as_mut_ptr(), image.len()), (sheet.as_ptr(), sheet.len()));
+        ffi::dialmoth_turn(&mut state.0, image.0, image.1, sheet.0, sheet.1, limit, out)
+    })?;
+    Ok(made)
 }
 
 /// A chunk to append. The append refuses a sheet whose data are not `n` by `m` elements, and floats
@@ -344,7 +434,7 @@ pub fn sheet(rows: &[Row]) -> alloc::vec::Vec<u8> {
 mod tests {
     extern crate std;
 
-    use super::{put_sheet, Row, Type};
+    use super::{ffi, put_sheet, Row, State, Type};
     use std::format;
     use std::vec::Vec;
 
@@ -376,6 +466,12 @@ mod tests {
         let header = outs(HEADER, "uint64_t dialmoth_", "uint64_t out[");
         assert!(header.contains(&("append", Some("3"))) && header.contains(&("create", None)));
         assert_eq!(outs(include_str!("ffi.rs"), "fn dialmoth_", "out: *mut [u64; "), header);
+    }
+
+    #[test]
+    fn states_are_as_long_as_those_of_the_header() {
+        assert!(HEADER.contains(&format!("#define DIALMOTH_STATE_WORDS {}\n", ffi::STATE_WORDS)));
+        assert_eq!(size_of::<State>(), 8 * ffi::STATE_WORDS);
     }
 
     #[test]

@@ -29,7 +29,8 @@ macro_rules! refusals {
 }
 
 refusals! {
-    // Opening, in this order; every call but create opens first. Tests 12 to 18 run entry by entry.
+    // Opening, in this order; every call but create and turn opens first. Tests 12 to 18 run entry
+    // by entry.
     1 SHORT_IMAGE "image under 256 bytes"
     2 LONG_IMAGE "image over 1,073,741,824 bytes"
     3 WRONG_MAGIC "wrong magic"
@@ -48,7 +49,7 @@ refusals! {
     16 CHUNK_OUTSIDE "a chunk ends beyond the image"
     17 CHUNK_IN_BLOCK "a chunk shares a byte with a block"
     18 LARGE_FRAME "an entry's frame above 4,294,967,294"
-    // Append, in this order.
+    // Append and begin, in this order.
     20 OLD_IMAGE "the image is of version 1.0"
     21 UNALIGNED_BLOCK "index or name location not a multiple of 8"
     31 FRAMES_FULL "the last frame is 4,294,967,294"
@@ -61,6 +62,8 @@ refusals! {
     30 NAN_IN_SHEET "a float or double of the sheet is a NaN"
     28 NAMES_FULL "names would pass 1,024"
     29 NO_ROOM "the append would pass the image's end"
+    // Turn.
+    32 NOT_EXPECTED "a refused begin's state, or a length or header words 8 to 32 not as it expects"
     // Lookup, chunk, element and probes, in this order; then n-th name and entry.
     40 NO_FRAME "frame not below the number of frames"
     41 NO_NAME "name not listed"

@@ -2,8 +2,9 @@
  * The library's calls on files, for the interoperation tests.
  *
  *   peer create FILE LENGTH SLOTS SEGMENTS   writes a fresh image; prints the number
- *   peer append FILE SHEET LIMIT             appends; prints the number, stores done and whole, and
- *                                            entries copied
+ *   peer append FILE SHEET LIMIT             appends in turns; prints the number, stores done and whole,
+ *                                            and entries copied; status 1 where the single call
+ *                                            answers otherwise or leaves other bytes
  *   peer list FILE                           prints the number; if 0, the counts, then a line
  *                                            "name HEX" for each name and for each entry
  *                                            "entry frame N location M id type flags start length",
@@ -76,12 +77,23 @@ static int create(const char *path, size_t length, uint64_t slots, uint64_t segm
 
 static int append(const char *path, const char *sheet_path, uint64_t limit)
 {
-    struct bytes image = load(path), sheet = load(sheet_path);
-    uint64_t out[3];
+    struct bytes image = load(path), same = load(path), sheet = load(sheet_path);
+    uint64_t state[DIALMOTH_STATE_WORDS], begun[2], made[1], out[3], done = 0;
+    uint64_t limits[] = { limit / 3, limit / 3, limit - 2 * (limit / 3) };
     uint64_t refused =
-        dialmoth_append(image.start, image.length, sheet.start, sheet.length, limit, out);
+        dialmoth_begin(image.start, image.length, sheet.start, sheet.length, state, begun);
+    size_t n;
 
-    printf("%" PRIu64 " %" PRIu64 " %" PRIu64 " %" PRIu64 "\n", refused, out[0], out[1], out[2]);
+    for (n = 0; refused == 0 && n < 3; n++) {
+        if (dialmoth_turn(state, image.start, image.length, sheet.start, sheet.length, limits[n], made) != 0)
+            return 1;
+        done += made[0];
+    }
+    if (dialmoth_append(same.start, same.length, sheet.start, sheet.length, limit, out) != refused
+        || out[0] != done || out[1] != begun[0] || out[2] != begun[1]
+        || memcmp(same.start, image.start, image.length) != 0)
+        return 1;
+    printf("%" PRIu64 " %" PRIu64 " %" PRIu64 " %" PRIu64 "\n", refused, done, begun[0], begun[1]);
     save(path, image);
     return 0;
 }

@@ -1,5 +1,7 @@
 // The C interface. A slice is a pointer and its length, an array of fixed length a pointer. Each call answers its number,
-// 0 for none; its values go to out, which a refusal leaves as it was. Only probes and append set theirs at every call.
+// 0 for none; its values go to out, which a refusal leaves as it was. Only probes, append, begin and turn set theirs at every
+// call.
+use gsd_append::State;
 use gsd_append::append;
 use gsd_create::create;
 use gsd_out::listed_number;
@@ -14,7 +16,9 @@ use gsd_read::lookup;
 use gsd_read::name;
 use gsd_read::open;
 use gsd_read::search;
+use gsd_states::STATE_WORDS;
 ghost use mathlib.Core.Path.{_≡_};
+ghost use mathlib.Core.List.{[], _∷_};
 ghost use Rattle.gsd_format.specs.Opening.{opening};
 ghost use Rattle.gsd_format.specs.Lookup.{nthEntry, nthName, lookup, chunkPlace};
 ghost use Rattle.gsd_format.specs.Elements.{element};
@@ -22,7 +26,8 @@ ghost use Rattle.gsd_format.specs.Create.{createNumber, created};
 ghost use Rattle.gsd_format.specs.Answers.{openingNumber, listedNumber, placeNumber, elementNumber};
 ghost use Rattle.gsd_stores.specs.Append.{appendTest, appended};
 ghost use Rattle.gsd_out.specs.Out.{openingOut, listedOut, placeOut, elementOut};
-ghost use Rattle.dialmoth.specs.Out.{probesOut, appendOut};
+ghost use Rattle.gsd_append.specs.Turns.{turnImage};
+ghost use Rattle.dialmoth.specs.Out.{probesOut, appendOut, beginOut, BeginState, turnOf};
 
 // Frames, names, entries.
 #[no_mangle]
@@ -129,4 +134,47 @@ pub extern "C" fn dialmoth_append(
     let answer = append(image, sheet, limit);
     *out = [answer.done, answer.whole, answer.copied];
     answer.number
+}
+
+// Stores of the whole append, listed entries that it copies: two zeros where it is refused. The state is set at every call.
+#[no_mangle]
+pub extern "C" fn dialmoth_begin(
+    image: &[u8],
+    sheet: &[u8],
+    state: &mut [u64; STATE_WORDS],
+    out: &mut [u64; 2],
+) -> u64
+    ensures number { λ r. ⌜ r ≡ appendTest (now (image .entry)) (now (sheet .entry)) ⌝ }
+    ensures state { λ _. ⌜ BeginState (now (image .entry)) (now (sheet .entry)) (now (state .exit)) ⌝ }
+    ensures out { λ _. ⌜ now (out .exit) ≡ beginOut (now (image .entry)) (now (sheet .entry)) ⌝ }
+{
+    let begun = State::begin(image, sheet);
+    let given = begun.state;
+    let words = given.words;
+    *state = words;
+    *out = [begun.whole, begun.copied];
+    begun.number
+}
+
+// Stores made by this turn, 0 where it is refused, which changes neither the image nor the state.
+#[no_mangle]
+pub extern "C" fn dialmoth_turn(
+    state: &mut [u64; STATE_WORDS],
+    image: &mut [u8],
+    sheet: &[u8],
+    limit: u64,
+    out: &mut [u64; 1],
+) -> u64
+    ensures number { λ r. ⌜ r ≡ turnOf (now (state .entry)) (now (image .entry)) (now (sheet .entry)) limit .number ⌝ }
+    ensures image { λ _. ⌜ now (image .exit) ≡ turnImage (record { words = now (state .entry) }) (now (image .entry)) (now (sheet .entry)) limit ⌝ }
+    ensures state { λ _. ⌜ now (state .exit) ≡ turnOf (now (state .entry)) (now (image .entry)) (now (sheet .entry)) limit .state .words ⌝ }
+    ensures out { λ _. ⌜ now (out .exit) ≡ turnOf (now (state .entry)) (now (image .entry)) (now (sheet .entry)) limit .made ∷ [] ⌝ }
+{
+    let words = *state;
+    let turned = State { words }.turn(image, sheet, limit);
+    let given = turned.state;
+    let words = given.words;
+    *state = words;
+    *out = [turned.made];
+    turned.number
 }

@@ -10,7 +10,7 @@ use Rattle.gsd_stores.specs.Append.{appendAnswer}
 use Rattle.gsd_stores.specs.Runs.{Call, Begins, first, next}
 use Rattle.gsd_stores.specs.Moving.{copiedSum, WholeRun, slotsOf, MovingCosts}
 use Rattle.gsd_stores.proofs.Moving.{moving-costs}
-use Rattle.gsd_append.proofs.Demand3.{call-answers, call-leaves, Calls, none, then, calls-run, answer-whole}
+use Rattle.gsd_append.proofs.Demand3.{made-answers, made-leaves, Calls, none, then, calls-run, answer-whole}
 
 -- what the answers of some calls add up to
 unfoldable pub answeredSum : {x z : List ℕ} {cs : List Call} → Calls x cs z → ℕ
@@ -27,12 +27,12 @@ pub answers-add : {x z : List ℕ} {cs : List Call} (q : Calls x cs z) → answe
 unfolding answeredSum copiedSum appendAnswer
 answers-add none = refl
 answers-add (then {cs = cs} r p q) =
-    λ i. (ap (λ a. a .copied) (call-answers p)) i + (answers-add q ∙ ap (λ m. copiedSum m cs) (call-leaves p)) i
+    λ i. (ap (λ a. a .copied) (made-answers p)) i + (answers-add q ∙ ap (λ m. copiedSum m cs) (made-leaves p)) i
 
 whole-calls : {x z : List ℕ} {cs : List Call} (q : Calls x cs z) → AllWhole q → WholeRun x cs
 unfolding AllWhole
 whole-calls (then r p q) (w, ws) y d first = answer-whole _ _ d r p w
-whole-calls (then {cs = cs} r p q) (w, ws) y d (next b) = whole-calls q ws y d (subst (λ m. Begins m cs y d) (sym (call-leaves p)) b)
+whole-calls (then {cs = cs} r p q) (w, ws) y d (next b) = whole-calls q ws y d (subst (λ m. Begins m cs y d) (sym (made-leaves p)) b)
 
 -- from any image that opens
 pub record CallsCost {x z : List ℕ} {cs : List Call} (q : Calls x cs z) : Type 0 where

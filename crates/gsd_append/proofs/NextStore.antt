@@ -19,7 +19,7 @@ use Rattle.gsd_extents.proofs.OneStore.{OneStore, one-store}
 use Rattle.gsd_steps.specs.Steps.{extentsOf}
 use Rattle.gsd_steps.proofs.Steps.{extents-length}
 use Rattle.gsd_turns.proofs.Turns.{Reached, reached, reached-inside, reached-more, reached-task}
-use Rattle.gsd_append.proofs.Appends.{Carried, plan-stores, plan-count, plan-prefix, append-ready}
+use Rattle.gsd_states.proofs.Appends.{Carried, plan-stores, plan-count, plan-prefix, append-ready}
 
 -- the k-th store of an append; behind the last there is none
 abbrev noStore : Store

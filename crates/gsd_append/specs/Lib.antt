@@ -1,1 +1,2 @@
--- No definition of its own: the append is defined in gsd_stores.
+-- What a beginning and a turn answer. The append itself is defined in gsd_stores.
+pub mod Turns

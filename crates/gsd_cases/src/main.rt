@@ -3,6 +3,7 @@
 mod ask;
 mod call;
 mod run;
+mod turns;
 
 use gsd_tables::tally;
 use gsd_tables::tally::State;

@@ -1,12 +1,14 @@
-// A table run line by line, on one image, the copy of it that is kept and one sheet; what a line asks is answered by a look
-// at the image or by a call.
+// A table run line by line, on one image, the copy of it that is kept, one sheet, one state of an append and the copy of it
+// that is held; what a line asks is answered by a look at the image or by a call.
 use crate::ask::ask;
 use crate::call::call;
+use crate::turns::hold;
 use gsd_lines::Line;
 use gsd_lines::line_end;
 use gsd_lines::part;
 use gsd_lines::read_line;
 use gsd_lines::words;
+use gsd_states::STATE_WORDS;
 use gsd_tables::look::look;
 use gsd_tables::make_line;
 use gsd_tables::tally;
@@ -22,28 +24,21 @@ fn number_of(
     kept: &[u8; 32768],
     sheet: &[u8],
     len: u64,
+    state: &mut [u64; STATE_WORDS],
     one: &mut [u64; 1],
     two: &mut [u64; 2],
     three: &mut [u64; 3],
     seven: &mut [u64; 7],
 ) -> u64 {
     let k = line.word;
+    let n = line.numbers;
     if k < words::CREATE {
         return look(line, table, image, kept, len);
     }
     if k < words::NAME {
-        return call(k, line.numbers, table, image, len, sheet, three);
+        return call(k, n, table, image, len, sheet, state, one, two, three);
     }
-    ask(
-        k,
-        line.numbers,
-        table,
-        part(image, len),
-        one,
-        two,
-        three,
-        seven,
-    )
+    ask(k, n, table, part(image, len), one, two, three, seven)
 }
 
 fn ask_line(
@@ -52,12 +47,13 @@ fn ask_line(
     image: &mut [u8; 32768],
     kept: &[u8; 32768],
     sheet: &[u8],
+    state: &mut [u64; STATE_WORDS],
     s: State,
     path: &[u8],
 ) -> State {
     // More than a search ever probes, and no zeros for a refused append: a count that is not set shows.
     let mut one = [99u64; 1];
-    let mut two = [0u64; 2];
+    let mut two = [1u64; 2];
     let mut three = [1u64; 3];
     let mut seven = [0u64; 7];
     let mut text = [0u8; 32768];
@@ -68,6 +64,7 @@ fn ask_line(
         kept,
         sheet,
         s.len,
+        state,
         &mut one,
         &mut two,
         &mut three,
@@ -85,6 +82,8 @@ fn run_words(
     image: &mut [u8; 32768],
     kept: &mut [u8; 32768],
     sheet: &mut [u8; 32768],
+    state: &mut [u64; STATE_WORDS],
+    held: &mut [u64; STATE_WORDS],
     s: State,
     path: &[u8],
 ) -> State
@@ -95,9 +94,10 @@ fn run_words(
         return tally::differs(s, path, b" not understood");
     }
     if line.word < words::END {
+        hold(line.word, state, held);
         return make_line(line, table, image, kept, sheet, s, path);
     }
-    ask_line(line, table, image, kept, part(sheet, s.end), s, path)
+    ask_line(line, table, image, kept, part(sheet, s.end), state, s, path)
 }
 
 fn run_line(
@@ -107,6 +107,8 @@ fn run_line(
     image: &mut [u8; 32768],
     kept: &mut [u8; 32768],
     sheet: &mut [u8; 32768],
+    state: &mut [u64; STATE_WORDS],
+    held: &mut [u64; STATE_WORDS],
     s: State,
     path: &[u8],
 ) -> State
@@ -120,7 +122,7 @@ fn run_line(
     match table[from] {
         b'#' => tally::begun(s, path),
         b'-' => s,
-        _ => run_words(table, from, to, image, kept, sheet, s, path),
+        _ => run_words(table, from, to, image, kept, sheet, state, held, s, path),
     }
 }
 
@@ -131,11 +133,24 @@ pub fn run(table: &mut [u8], n: usize, path: &[u8]) -> State
     let mut image = [0u8; 32768];
     let mut kept = [0u8; 32768];
     let mut sheet = [0u8; 32768];
+    let mut state = [0u64; STATE_WORDS];
+    let mut held = [0u64; STATE_WORDS];
     let mut s = tally::start();
     let mut from = 0;
     while from < n {
         let to = line_end(table, from, n);
-        s = run_line(table, from, to, &mut image, &mut kept, &mut sheet, s, path);
+        s = run_line(
+            table,
+            from,
+            to,
+            &mut image,
+            &mut kept,
+            &mut sheet,
+            &mut state,
+            &mut held,
+            s,
+            path,
+        );
         from = to + 1;
     }
     tally::ended(s, path)

@@ -3,3 +3,4 @@ pub mod Words
 pub mod Tasks
 pub mod Extents
 pub mod OneStore
+pub mod Kept

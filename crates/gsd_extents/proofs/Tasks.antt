@@ -1,15 +1,17 @@
 -- Laws of tasks: how many there are, parts of them, what is left at a cursor, and the stores that they make.
-use Prim.Native.Nat.{ℕ, zero, suc, _+_, _-_, _≤_, _<_}
+use Prim.Native.Nat.{ℕ, zero, suc, _+_, _*_, _-_, _≤_, _<_}
 use mathlib.Core.Path.{_≡_, refl, _∙_, ap}
 use mathlib.Core.List.{List, [], _∷_, _++_, append-assoc}
 use native.Mathlib.Nat.{add-zero, sub-zero, sub-self, add-sub-cancel-left, sub-eq-zero-of-le}
 use native.Mathlib.Omega.{arith}
 use lib.ListN.{length, getD, take, drop, length-append, take-append-drop}
 use lib.Seq.{take-append-le, drop-append-le}
+use Rattle.gsd_format.specs.Header.{greatestLength}
 use Rattle.gsd_format.proofs.Bytes.{stored-length}
+use Rattle.gsd_format.proofs.Lists.{Each}
 use Rattle.gsd_stores.specs.Stores.{Store, after}
 use Rattle.gsd_extents.specs.declared.extent.Extent.{Extent}
-use Rattle.gsd_extents.specs.Exec.{storeOf, applied, Task, tasksFrom, tasks, rest, exec, storesOf}
+use Rattle.gsd_extents.specs.Exec.{Good, storeOf, applied, Task, tasksFrom, tasks, rest, exec, storesOf}
 
 -- Words of one extent
 
@@ -48,6 +50,12 @@ pub tasks-rest : (xs : List Extent) → tasks xs ≡ rest xs 0
 unfolding tasks rest
 tasks-rest [] = refl
 tasks-rest (x ∷ xs) = rw sub-zero
+
+-- extents in an image that opens have few words
+pub tasks-few : (n m : ℕ) (es : List Extent) → n ≤ greatestLength → Each (Good n m) es → length (tasks es) ≤ 134217728 * length es
+unfolding tasks
+tasks-few n m [] s h = omega arith
+tasks-few n m (e ∷ es) s h = simp (length-append, tasksFrom-length) (omega (arith, h .0 .room, tasks-few n m es s (h .1)))
 
 -- What is left at a cursor
 
@@ -145,6 +153,11 @@ unfolding exec storesOf after
 exec-after sheet img ts zero = refl
 exec-after sheet img [] (suc k) = refl
 exec-after sheet img (t ∷ ts) (suc k) = exec-after sheet (applied sheet img (t .extent) (t .word)) ts k
+
+pub exec-stores : (sheet img : List ℕ) (ts : List Task) → exec sheet img ts ≡ after img (storesOf sheet img ts)
+unfolding exec storesOf after
+exec-stores sheet img [] = refl
+exec-stores sheet img (t ∷ ts) = exec-stores sheet (applied sheet img (t .extent) (t .word)) ts
 
 -- the k-th store is that of the k-th task, on the image that the tasks before it left
 pub storesOf-at : (sheet img : List ℕ) (ts : List Task) (k : ℕ) (no-task : Task) (no-store : Store) → k < length ts

@@ -1,10 +1,10 @@
 -- The stores of extents, made one after the other: each word is read in the image as the stores before it left it.
 use Prim.Native.Nat.{ℕ, zero, suc, _+_, _*_, _-_, _%_, _≤_, _<_}
 use mathlib.Core.Path.{_≡_}
-use mathlib.Core.Bool.{cond}
+use mathlib.Core.Bool.{Bool, cond, _&&_}
 use mathlib.Core.List.{List, [], _∷_, _++_}
 use lib.ListN.{take}
-use lib.Dec.{eqb}
+use lib.Dec.{eqb, leb}
 use Rattle.gsd_format.specs.Bytes.{le, leBytes, part, stored}
 use Rattle.gsd_stores.specs.Stores.{Store}
 use Rattle.gsd_extents.specs.declared.extent.Extent.{Extent}
@@ -47,6 +47,16 @@ pub record Good (n m : ℕ) (x : Extent) : Type 0 where
   pub image : x .kind ≡ copyKind → x .until ≤ n
   pub sheet : x .kind ≡ dataKind → x .until ≤ m
   pub name : x .kind ≡ nameKind → (x .until ≤ m) × (x .value + (x .until - x .from) ≤ n)
+
+-- and the same as a test: what the kind reads lies in image and sheet; and so does all of it
+unfoldable pub sourceKeeps : ℕ → ℕ → Extent → Bool
+sourceKeeps n m x =
+    cond (eqb (x .kind) copyKind) (leb (x .until) n)
+    (cond (eqb (x .kind) dataKind) (leb (x .until) m)
+    (cond (eqb (x .kind) nameKind) (leb (x .until) m && leb (x .value + (x .until - x .from)) n) (eqb (x .kind) numberKind)))
+
+unfoldable pub keepsTo : ℕ → ℕ → Extent → Bool
+keepsTo n m x = eqb (x .to % 8) 0 && leb (x .to + 8 * x .words) n && leb (x .from) (x .until) && sourceKeeps n m x
 
 -- a word that is a number, or lies whole before the cut
 pub record Near (x : Extent) (w : ℕ) : Type 0 where

@@ -1,6 +1,6 @@
 -- Every element of a list, or one of them: laws over places, appends, parts, maps and tests.
 use Prim.Native.Nat.{ℕ, zero, suc, _+_, _≤_, _<_}
-use mathlib.Core.Path.{_≡_, refl, sym, _∙_}
+use mathlib.Core.Path.{_≡_, refl, sym, _∙_, ap}
 use mathlib.Core.Bool.{Bool, true, false, true≢false, _||_}
 use mathlib.Core.Logic.{_⊎_, inl, inr}
 use mathlib.Core.List.{List, [], _∷_, _++_, map}
@@ -139,3 +139,14 @@ module _ {A : Type 0} (p : A → Bool) where
   pub one-end : (l : List A) (i : ℕ) → length l ≤ i → oneOf p (drop i l) ≡ false
   unfolding oneOf
   one-end l i h = rw (drop-of-length-le l h)
+
+-- parts of a list that is mapped
+pub map-take : {A B : Type 0} (f : A → B) (n : ℕ) (l : List A) → map f (take n l) ≡ take n (map f l)
+map-take f zero l = refl
+map-take f (suc n) [] = refl
+map-take {B = B} f (suc n) (x ∷ xs) = ap {B = List B} (λ r. f x ∷ r) (map-take f n xs)
+
+pub map-drop : {A B : Type 0} (f : A → B) (n : ℕ) (l : List A) → map f (drop n l) ≡ drop n (map f l)
+map-drop f zero l = refl
+map-drop f (suc n) [] = refl
+map-drop f (suc n) (x ∷ xs) = map-drop f n xs

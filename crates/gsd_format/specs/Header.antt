@@ -92,6 +92,10 @@ aligned n = roundUp alignment n
 abbrev pub versionOf : List ℕ → ℕ
 versionOf img = le 4 img versionPlace
 
+-- header words 8 to 32: where the index and the name list lie, and how long they are
+abbrev pub headerWords : List ℕ → List ℕ
+headerWords img = le 8 img indexPlace ∷ le 8 img slotsPlace ∷ le 8 img namelistPlace ∷ le 8 img segmentsPlace ∷ []
+
 unfoldable pub layoutOf : List ℕ → Layout
 layoutOf img = record {
   len = length img;

@@ -1,7 +1,7 @@
 // The words of a table. A line's form is its word with 0 for each number, ' for each text and = before an answer: a line
 // "lookup 0 'probe' = 41" has the form "lookup0'=".
 
-const FORMS: [u8; 384] = *b"\
+const FORMS: [u8; 448] = *b"\
 image0          \
 use0            \
 bytes0'         \
@@ -13,12 +13,16 @@ sheet'          \
 more'           \
 patch00         \
 cut0            \
+hold            \
+held            \
 end=            \
 word0=          \
 has0'=          \
 same=           \
 create000''=    \
 append0=        \
+begin=          \
+turn0=          \
 name0=          \
 chunk0'=        \
 element0'0=     \
@@ -28,8 +32,8 @@ lookup0'=       \
 probes0'=       \
 ";
 
-// Their places in this list: the words that make an image or a sheet, and those that ask for no value, two, three, seven
-// and one.
+// Their places in this list: the words that make an image or a sheet, or hold a state; those that look at the image, make or
+// change it, and read it.
 pub const IMAGE: usize = 0;
 
 pub const USE: usize = 1;
@@ -52,33 +56,41 @@ pub const PATCH: usize = 9;
 
 pub const CUT: usize = 10;
 
-pub const END: usize = 11;
+pub const HOLD: usize = 11;
 
-pub const WORD_AT: usize = 12;
+pub const HELD: usize = 12;
 
-pub const HAS: usize = 13;
+pub const END: usize = 13;
 
-pub const SAME: usize = 14;
+pub const WORD_AT: usize = 14;
 
-pub const CREATE: usize = 15;
+pub const HAS: usize = 15;
 
-pub const APPEND: usize = 16;
+pub const SAME: usize = 16;
 
-pub const NAME: usize = 17;
+pub const CREATE: usize = 17;
 
-pub const CHUNK: usize = 18;
+pub const APPEND: usize = 18;
 
-pub const ELEMENT: usize = 19;
+pub const BEGIN: usize = 19;
 
-pub const OPEN: usize = 20;
+pub const TURN: usize = 20;
 
-pub const ENTRY: usize = 21;
+pub const NAME: usize = 21;
 
-pub const LOOKUP: usize = 22;
+pub const CHUNK: usize = 22;
 
-pub const PROBES: usize = 23;
+pub const ELEMENT: usize = 23;
 
-pub const UNKNOWN: usize = 24;
+pub const OPEN: usize = 24;
+
+pub const ENTRY: usize = 25;
+
+pub const LOOKUP: usize = 26;
+
+pub const PROBES: usize = 27;
+
+pub const UNKNOWN: usize = 28;
 
 // The place of a form in the list.
 pub fn known(form: &[u8; 16]) -> usize {

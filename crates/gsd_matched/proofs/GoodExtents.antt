@@ -1,6 +1,6 @@
 -- Every extent of a plan that matches an accepted append is good: it keeps to the image and to the sheet, at multiples of 8. And so the
 -- plan is ready.
-use Prim.Native.Nat.{ℕ, zero, suc, _+_, _*_, _%_, _≤_, _<_}
+use Prim.Native.Nat.{ℕ, zero, suc, _+_, _*_, _≤_, _<_}
 use mathlib.Core.Path.{_≡_, refl, sym, _∙_, ap}
 use mathlib.Core.List.{List, [], _∷_, _++_}
 use native.Mathlib.Omega.{arith}
@@ -23,28 +23,22 @@ use Rattle.gsd_stores.proofs.Places.{blocks-even}
 use Rattle.gsd_extents.specs.declared.extent.Extent.{Extent}
 use Rattle.gsd_extents.specs.Exec.{Good}
 use Rattle.gsd_extents.specs.Extents.{none}
+use Rattle.gsd_extents.proofs.Extents.{good-number, good-copied, good-data, good-name}
+use Rattle.gsd_extents.proofs.Tasks.{tasks-few}
 use Rattle.gsd_sheet.specs.Columns.{newRow}
 use Rattle.gsd_steps.specs.Numbers.{rowsIn, freshIn}
 use Rattle.gsd_matched.specs.Matches.{NumbersMatch, NameMatch, Matches}
-use Rattle.gsd_steps.specs.Steps.{clearExtent, dataExtent, nameMove, indexMove, nameExtent, ofFour, entryExtent, tab, extentsOf, Sound, Ready}
-use Rattle.gsd_steps.proofs.Steps.{extents-length}
+use Rattle.gsd_steps.specs.Steps.{clearExtent, dataExtent, nameMove, indexMove, nameExtent, entryExtent, tab, frontOf, extentsOf, Sound, Ready}
+use Rattle.gsd_steps.proofs.Steps.{extents-length, good-entry}
 use Rattle.gsd_matched.proofs.Blocks.{slotsClear, endKeep, namesClear, clears}
 use Rattle.gsd_matched.proofs.Moves.{names-move, names-end, entriesIn, entries-inside, entries-long, index-move, index-end}
-use Rattle.gsd_matched.proofs.GoodKinds.{AllGood, _⊹_, good-tab, good-number, good-copied, good-data, good-name, Held, good-block, moving-held, tasks-few}
+use Rattle.gsd_matched.proofs.GoodKinds.{AllGood, _⊹_, good-tab, Held, good-block, moving-held}
 
 -- a name lies in its list, with its zero
 flat-inside : (bs : List (List ℕ)) (j : ℕ) → j < length bs → length (flat (take j bs)) + length (getD bs j []) + 1 ≤ length (flat bs)
 flat-inside [] j l = absurd (omega arith)
 flat-inside (b ∷ bs) zero l = omega (arith, flat-size b bs, ap length flat-none)
 flat-inside (b ∷ bs) (suc j) l = omega (arith, flat-size b bs, flat-size b (take j bs), flat-inside bs j (omega arith))
-
--- the places of an entry's words
-four-fit : (i : ℕ) → (ofFour 0 8 24 16 i ≤ 24) × (ofFour 0 8 24 16 i % 8 ≡ 0)
-unfolding ofFour
-four-fit zero = (omega arith, refl)
-four-fit (suc zero) = (omega arith, refl)
-four-fit (suc (suc zero)) = (omega arith, refl)
-four-fit (suc (suc (suc i))) = (omega arith, refl)
 
 -- the table lies in the sheet
 table-inside : (s : List ℕ) → Exact s → tableEnd s ≤ length s
@@ -107,11 +101,9 @@ module _ {x : List ℕ} {v : View} {d : Plan} (sheet : List ℕ) (r : Accepted v
       (omega (arith, blocks-even v rows d r .0)) (omega (arith, r .blocks .namelistHigh, is-long is)))
 
   entry-good : (k : ℕ) → k < 4 * rowsIn p → Fine (entryExtent sheet p k)
-  unfolding entryExtent
-  entry-good k l =
-      good-number _ 1 _ (omega (arith, four-fit (k % 4), w .slot, blocks-even v rows d r .1)) (omega (
+  entry-good =
+      good-entry (length x) (length sheet) sheet p (omega (arith, w .slot, blocks-even v rows d r .1)) (omega (
         arith,
-        four-fit (k % 4),
         w .slot,
         w .rows,
         entries-count v rows d (r .plan),
@@ -124,16 +116,16 @@ module _ {x : List ℕ} {v : View} {d : Plan} (sheet : List ℕ) (r : Accepted v
   names-held =
       moving-held (d .namesMove) (flat (v .names)) (length x) (names-move r is w) (omega arith) refl (omega (arith, is .front .low))
       (omega (arith, is .names .few, names-inside)) (omega (arith, is .front .high)) (omega (arith, ends))
-      (λ e. omega (arith, names-end r e, is-long is))
+      (λ e. omega (arith, names-end r e, is-long is)) (omega arith)
 
   index-held : Held (length x) (indexMove p)
   index-held =
       moving-held (d .indexMoves) (entriesIn x v) (length x) (index-move r is w) (omega arith) refl (omega (arith, is .front .low))
       (omega (arith, entries-inside is, entries-long is)) (omega (arith, is .front .high)) (omega (arith, ends))
-      (λ e. omega (arith, index-end r e, is-long is))
+      (λ e. omega (arith, index-end r e, is-long is)) (omega arith)
 
   extents-good : AllGood (length x) (length sheet) (extentsOf sheet p)
-  unfolding extentsOf
+  unfolding extentsOf frontOf
   extents-good =
       clears-good
       ⊹ good-tab (dataExtent p) 0 (rowsIn p) (λ i l. data-good i (omega (arith, w .rows)))
@@ -146,18 +138,16 @@ module _ {x : List ℕ} {v : View} {d : Plan} (sheet : List ℕ) (r : Accepted v
   plan-sound few =
       let entries : length (d .entries) ≡ rowsIn p = entries-count v rows d (r .plan) ∙ sym (w .rows) in
       record {
-        long = m .long;
-        rows = omega (arith, w .rows, few);
-        fresh = omega (arith, w .rows, w .fresh, ap length (r .plan .fresh), new-few (new-names (v .names) rows));
+        front = record {
+          long = m .long;
+          rows = omega (arith, w .rows, few);
+          fresh = omega (arith, w .rows, w .fresh, ap length (r .plan .fresh), new-few (new-names (v .names) rows));
+          nameMove = names-held .small;
+          indexMove = index-held .small;
+          newRows = λ j l. omega (arith, m .names j (omega (arith, w .fresh)) .row, few);
+        };
         table = omega (arith, w .rows, rows-count sheet, table-inside sheet exact);
-        entries = omega (arith, w .entriesEnds, w .indexEnds, is .entries .few);
-        names = omega (arith, w .namesEnds, w .namelistEnds, is .names .few);
-        namesHigh = omega (arith, w .namelistEnds, names-inside, is .front .high);
-        nameMove = names-held .fits;
-        segments = omega (arith, names-held .fits .room);
-        indexMove = index-held .fits;
-        slots = omega (arith, index-held .fits .room);
-        newRows = λ j l. omega (arith, m .names j (omega (arith, w .fresh)) .row, few);
+        slot = omega (arith, w .slot, r .plan .entriesFit, r .blocks .indexHigh, is-long is, ends);
         slotRows = λ s l. omega (arith, m .entries s (omega (arith, entries)) .row, w .rows);
         slotIds = λ s l. m .entries s (omega (arith, entries)) .small;
       }
@@ -172,7 +162,7 @@ module _ {x : List ℕ} {v : View} {d : Plan} (sheet : List ℕ) (r : Accepted v
           arith,
           tasks-few (length x) (length sheet) (extentsOf sheet p) (is .front .high) (extents-good .each),
           extents-length sheet p,
-          sound .rows,
-          sound .fresh,
+          sound .front .rows,
+          sound .front .fresh,
         );
       }

@@ -27,7 +27,7 @@ use Rattle.gsd_extents.specs.Exec.{tasks, storesOf}
 use Rattle.gsd_steps.specs.Numbers.{rowsIn, freshIn}
 use Rattle.gsd_matched.specs.Matches.{NumbersMatch, NameMatch, Matches}
 use Rattle.gsd_sheet.specs.Columns.{newRow}
-use Rattle.gsd_steps.specs.Steps.{dataExtent, nameMove, indexMove, moveExtent, nameExtent, entryExtent, tab, extentsOf}
+use Rattle.gsd_steps.specs.Steps.{dataExtent, nameMove, indexMove, moveExtent, nameExtent, entryExtent, tab, frontOf, extentsOf}
 use Rattle.gsd_matched.proofs.Octets.{text-octets}
 use Rattle.gsd_matched.proofs.Makes.{Makes, AnyImage, AnyStore, Always, makes-from, _⨾_}
 use Rattle.gsd_matched.proofs.Blocks.{lists-cleared, block-moved}
@@ -114,7 +114,7 @@ module _ {x : List ℕ} {v : View} {d : Plan} (sheet : List ℕ) (r : Accepted v
       }))
 
   all-made : Makes sheet (Base x v) AnyImage (extentsOf sheet p) (stepsOf x v d)
-  unfolding extentsOf stepsOf
+  unfolding extentsOf frontOf stepsOf
   all-made =
       lists-cleared sheet (m .numbers) (d .start) (names-octets is ox) (r .evenNames)
       ⨾ data-made

@@ -1,21 +1,19 @@
--- Laws of a plan's list of extents: which extent stands where, how many there are, and what a good one tells.
-use Prim.Native.Nat.{ℕ, zero, suc, _+_, _*_, _-_, _/_, _%_, _≤_, _<_}
+-- Laws of a plan's list of extents: which extent stands where, how many there are, and that those of the entries are good.
+use Prim.Native.Nat.{ℕ, zero, suc, _+_, _*_, _-_, _%_, _≤_, _<_}
 use mathlib.Core.Path.{_≡_, refl, sym, _∙_, ap}
 use mathlib.Core.List.{List, _++_, append-assoc}
 use native.Mathlib.Nat.{add-zero}
 use native.Mathlib.Omega.{arith}
 use lib.ListN.{length, getD, length-append, List·getD-append}
 use lib.Seq.{getD-append-add}
-use Rattle.gsd_stores.specs.Stores.{half}
-use Rattle.gsd_sheet.specs.Columns.{nameFrom, dataFrom, newRow, nameTo}
-use Rattle.gsd_steps.specs.Numbers.{rowsIn, freshIn}
+use Rattle.gsd_steps.specs.Numbers.{rowsIn, freshIn, slotIn}
 use Rattle.gsd_extents.specs.declared.extent.Extent.{Extent}
 use Rattle.gsd_extents.specs.Exec.{Good}
 use Rattle.gsd_extents.specs.Extents.{none}
-use Rattle.gsd_extents.proofs.Extents.{good-more}
+use Rattle.gsd_extents.proofs.Extents.{good-number}
 use Rattle.gsd_steps.specs.declared.Move.{Move}
-use Rattle.gsd_steps.specs.Steps.{clearExtent, dataExtent, nameMove, indexMove, moveExtent, nameExtent, entryPlace, entryExtent}
-use Rattle.gsd_steps.specs.Steps.{tab, extentsOf, extentCount, Ready}
+use Rattle.gsd_steps.specs.Steps.{clearExtent, dataExtent, nameMove, indexMove, moveExtent, nameExtent, ofFour, entryExtent}
+use Rattle.gsd_steps.specs.Steps.{tab, frontOf, frontCount, extentsOf, extentCount}
 
 -- Tables
 
@@ -44,12 +42,9 @@ behind f n b i h =
 
 -- The extents of a plan, group by group
 
-module _ (sheet p : List ℕ) where
-  abbrev from-entries : List Extent
-  from-entries = tab (entryExtent sheet p) 0 (4 * rowsIn p)
-
+module _ (p : List ℕ) where
   abbrev from-slots : List Extent
-  from-slots = tab (moveExtent (indexMove p)) 0 4 ++ from-entries
+  from-slots = tab (moveExtent (indexMove p)) 0 4
 
   abbrev from-names : List Extent
   from-names = tab (nameExtent p) 0 (freshIn p) ++ from-slots
@@ -60,52 +55,77 @@ module _ (sheet p : List ℕ) where
   abbrev from-data : List Extent
   from-data = tab (dataExtent p) 0 (rowsIn p) ++ from-block
 
-  extents-are : extentsOf sheet p ≡ tab (clearExtent p) 0 3 ++ from-data
-  unfolding extentsOf
-  extents-are = simp append-assoc
+  front-is : frontOf p ≡ tab (clearExtent p) 0 3 ++ from-data
+  unfolding frontOf
+  front-is = simp append-assoc
 
-  pub extents-length : length (extentsOf sheet p) ≡ extentCount p
-  extents-length = rw extents-are (simp (length-append, tab-length) (omega arith))
+  pub front-length : length (frontOf p) ≡ frontCount p
+  front-length = rw front-is (simp (length-append, tab-length) (omega arith))
 
-  -- the r-th extent, by the number that is left of r behind the groups before its own
+  -- the r-th extent of steps 1 to 5, by the number that is left of r behind the groups before its own
   module _ (r : ℕ) where
-    pub at-clear : r < 3 → getD (extentsOf sheet p) r none ≡ clearExtent p r
-    at-clear h = rw extents-are (within (clearExtent p) 3 from-data r h)
+    pub at-clear : r < 3 → getD (frontOf p) r none ≡ clearExtent p r
+    at-clear h = rw front-is (within (clearExtent p) 3 from-data r h)
 
     module _ (a : 3 ≤ r) where
-      to-data : getD (extentsOf sheet p) r none ≡ getD from-data (r - 3) none
-      to-data = rw extents-are (behind (clearExtent p) 3 from-data r a)
+      to-data : getD (frontOf p) r none ≡ getD from-data (r - 3) none
+      to-data = rw front-is (behind (clearExtent p) 3 from-data r a)
 
-      pub at-data : r - 3 < rowsIn p → getD (extentsOf sheet p) r none ≡ dataExtent p (r - 3)
+      pub at-data : r - 3 < rowsIn p → getD (frontOf p) r none ≡ dataExtent p (r - 3)
       at-data h = to-data ∙ within (dataExtent p) (rowsIn p) from-block (r - 3) h
 
       module _ (b : rowsIn p ≤ r - 3) where
-        to-block : getD (extentsOf sheet p) r none ≡ getD from-block (r - 3 - rowsIn p) none
+        to-block : getD (frontOf p) r none ≡ getD from-block (r - 3 - rowsIn p) none
         to-block = to-data ∙ behind (dataExtent p) (rowsIn p) from-block (r - 3) b
 
-        pub at-block : r - 3 - rowsIn p < 4 → getD (extentsOf sheet p) r none ≡ moveExtent (nameMove p) (r - 3 - rowsIn p)
+        pub at-block : r - 3 - rowsIn p < 4 → getD (frontOf p) r none ≡ moveExtent (nameMove p) (r - 3 - rowsIn p)
         at-block h = to-block ∙ within (moveExtent (nameMove p)) 4 from-names (r - 3 - rowsIn p) h
 
         module _ (c : 4 ≤ r - 3 - rowsIn p) where
-          to-names : getD (extentsOf sheet p) r none ≡ getD from-names (r - 3 - rowsIn p - 4) none
+          to-names : getD (frontOf p) r none ≡ getD from-names (r - 3 - rowsIn p - 4) none
           to-names = to-block ∙ behind (moveExtent (nameMove p)) 4 from-names (r - 3 - rowsIn p) c
 
-          pub at-name : r - 3 - rowsIn p - 4 < freshIn p → getD (extentsOf sheet p) r none ≡ nameExtent p (r - 3 - rowsIn p - 4)
+          pub at-name : r - 3 - rowsIn p - 4 < freshIn p → getD (frontOf p) r none ≡ nameExtent p (r - 3 - rowsIn p - 4)
           at-name h = to-names ∙ within (nameExtent p) (freshIn p) from-slots (r - 3 - rowsIn p - 4) h
 
-          module _ (d : freshIn p ≤ r - 3 - rowsIn p - 4) where
-            to-slots : getD (extentsOf sheet p) r none ≡ getD from-slots (r - 3 - rowsIn p - 4 - freshIn p) none
-            to-slots = to-names ∙ behind (nameExtent p) (freshIn p) from-slots (r - 3 - rowsIn p - 4) d
+          pub at-slots : freshIn p ≤ r - 3 - rowsIn p - 4 → r - 3 - rowsIn p - 4 - freshIn p < 4
+              → getD (frontOf p) r none ≡ moveExtent (indexMove p) (r - 3 - rowsIn p - 4 - freshIn p)
+          at-slots d h =
+              to-names ∙ behind (nameExtent p) (freshIn p) from-slots (r - 3 - rowsIn p - 4) d
+              ∙ tab-first (moveExtent (indexMove p)) 4 (r - 3 - rowsIn p - 4 - freshIn p) h
 
-            pub at-slots : r - 3 - rowsIn p - 4 - freshIn p < 4
-                → getD (extentsOf sheet p) r none ≡ moveExtent (indexMove p) (r - 3 - rowsIn p - 4 - freshIn p)
-            at-slots h = to-slots ∙ within (moveExtent (indexMove p)) 4 from-entries (r - 3 - rowsIn p - 4 - freshIn p) h
+-- those of steps 1 to 5 stand first, and behind them the words of the entries
+module _ (sheet p : List ℕ) where
+  abbrev entries : List Extent
+  entries = tab (entryExtent sheet p) 0 (4 * rowsIn p)
 
-            pub at-entry : 4 ≤ r - 3 - rowsIn p - 4 - freshIn p → r - 3 - rowsIn p - 4 - freshIn p - 4 < 4 * rowsIn p
-                → getD (extentsOf sheet p) r none ≡ entryExtent sheet p (r - 3 - rowsIn p - 4 - freshIn p - 4)
-            at-entry e h =
-                to-slots ∙ behind (moveExtent (indexMove p)) 4 from-entries (r - 3 - rowsIn p - 4 - freshIn p) e
-                ∙ tab-first (entryExtent sheet p) (4 * rowsIn p) (r - 3 - rowsIn p - 4 - freshIn p - 4) h
+  pub extents-length : length (extentsOf sheet p) ≡ extentCount p
+  unfolding extentsOf
+  extents-length = simp (length-append, tab-length) (omega (arith, front-length p))
+
+  pub at-front : (r : ℕ) → r < frontCount p → getD (extentsOf sheet p) r none ≡ getD (frontOf p) r none
+  unfolding extentsOf
+  at-front r h = List·getD-append (frontOf p) entries none r (omega (arith, front-length p))
+
+  pub at-entry : (r : ℕ) → frontCount p ≤ r → r - frontCount p < 4 * rowsIn p → getD (extentsOf sheet p) r none ≡ entryExtent sheet p (r - frontCount p)
+  unfolding extentsOf
+  at-entry r h l =
+      ap (λ k. getD (frontOf p ++ entries) k none) (let q : r ≡ length (frontOf p) + (r - frontCount p) = omega (arith, front-length p) in q)
+      ∙ getD-append-add (frontOf p) entries (r - frontCount p) none
+      ∙ tab-first (entryExtent sheet p) (4 * rowsIn p) (r - frontCount p) l
+
+-- the places of an entry's words
+pub four-fit : (i : ℕ) → (ofFour 0 8 24 16 i ≤ 24) × (ofFour 0 8 24 16 i % 8 ≡ 0)
+unfolding ofFour
+four-fit zero = (omega arith, refl)
+four-fit (suc zero) = (omega arith, refl)
+four-fit (suc (suc zero)) = (omega arith, refl)
+four-fit (suc (suc (suc i))) = (omega arith, refl)
+
+-- its extents are good where its slot is
+pub good-entry : (n m : ℕ) (sheet p : List ℕ) → slotIn p % 8 ≡ 0 → slotIn p + 32 * rowsIn p ≤ n → (k : ℕ) → k < 4 * rowsIn p → Good n m (entryExtent sheet p k)
+unfolding entryExtent
+good-entry n m sheet p a h k l = good-number _ 1 _ (omega (arith, four-fit (k % 4))) (omega (arith, four-fit (k % 4)))
 
 -- Blocks
 
@@ -115,24 +135,3 @@ block-stays b zero e = rw e
 block-stays b (suc zero) e = rw e
 block-stays b (suc (suc zero)) e = rw e
 block-stays b (suc (suc (suc k))) e = rw e
-
--- Good extents
-
--- what the numbers of a good extent are, so that it can be computed from them
-module _ (n m : ℕ) (sheet p : List ℕ) (x : Extent) (g : Good n m x) where
-  pub data-fits : (i : ℕ) → x ≡ dataExtent p i → (dataFrom p i ≤ nameFrom p (i + 1)) × (nameFrom p (i + 1) ≤ m)
-  unfolding dataExtent
-  data-fits i e = let h : Good n m (dataExtent p i) = rw e at g in (h .order, h .sheet refl)
-
-  pub name-fits : (j : ℕ) → x ≡ nameExtent p j → (nameFrom p (newRow p j) ≤ dataFrom p (newRow p j))
-      × (nameTo p j + (dataFrom p (newRow p j) - nameFrom p (newRow p j)) ≤ n)
-  unfolding nameExtent
-  name-fits j e = let h : Good n m (nameExtent p j) = rw e at g in (h .order, h .name refl .1)
-
-  pub entry-fits : (k : ℕ) → x ≡ entryExtent sheet p k → entryPlace p (rowsIn p - 1 - k / 4) (k % 4) ≤ n
-  unfolding entryExtent
-  entry-fits k e = let h : Good n m (entryExtent sheet p k) = rw e at g in omega (arith, h .room)
-
-pub good-half : (n : ℕ) (sheet p : List ℕ) (r : ℕ) → n ≤ half → length sheet ≤ half → Ready n sheet p → r < extentCount p →
-    Good half half (getD (extentsOf sheet p) r none)
-good-half n sheet p r a b ready l = good-more n (length sheet) half half (getD (extentsOf sheet p) r none) a b (ready .good r l)

@@ -5,7 +5,7 @@ use mathlib.Core.Bool.{cond}
 use mathlib.Core.List.{List, [], _∷_, _++_}
 use lib.ListN.{getD, length}
 use lib.Dec.{eqb}
-use Rattle.gsd_stores.specs.Stores.{half}
+use Rattle.gsd_format.specs.Header.{greatestLength}
 use Rattle.gsd_stores.specs.Sheet.{rowN, rowM, rowKind, rowAt}
 use Rattle.gsd_sheet.specs.Columns.{planWords, nameFrom, dataFrom, slotPair, newRow, dataTo, nameTo}
 use Rattle.gsd_steps.specs.Numbers.{rowsIn, freshIn, frameIn, slotIn, indexIn, entriesEndIn, indexEndIn}
@@ -95,39 +95,47 @@ unfoldable pub tab : (ℕ → Extent) → ℕ → ℕ → List Extent
 tab f i zero = []
 tab f i (suc n) = f i ∷ tab f (suc i) n
 
-unfoldable pub extentsOf : List ℕ → List ℕ → List Extent
-extentsOf sheet p =
+-- steps 1 to 5: what they do follows from the plan alone but for the bytes that they copy
+unfoldable pub frontOf : List ℕ → List Extent
+frontOf p =
     tab (clearExtent p) 0 3
     ++ tab (dataExtent p) 0 (rowsIn p)
     ++ tab (moveExtent (nameMove p)) 0 4
     ++ tab (nameExtent p) 0 (freshIn p)
     ++ tab (moveExtent (indexMove p)) 0 4
-    ++ tab (entryExtent sheet p) 0 (4 * rowsIn p)
+
+abbrev pub frontCount : List ℕ → ℕ
+frontCount p = 11 + freshIn p + rowsIn p
+
+-- and step 6, whose numbers are read from the sheet
+unfoldable pub extentsOf : List ℕ → List ℕ → List Extent
+extentsOf sheet p = frontOf p ++ tab (entryExtent sheet p) 0 (4 * rowsIn p)
 
 abbrev pub extentCount : List ℕ → ℕ
 extentCount p = 11 + freshIn p + 5 * rowsIn p
 
--- what a block's extents need to be computed
-pub record Fits (b : Move) : Type 0 where
-  pub order : b .from ≤ b .until
-  pub high : b .until ≤ half
-  pub room : b .to + 8 * b .words ≤ half
-  pub listed : (b .count ≡ 0 → ⊥) → (b .until - b .from + 7) / 8 ≤ b .words
+-- What the extents need to be reckoned at all, wherever they then lie: no sum or product passes a word
 
--- what all of them need, with a sheet of m bytes
-pub record Sound (m : ℕ) (p : List ℕ) : Type 0 where
+-- those of a block
+pub record Small (b : Move) : Type 0 where
+  pub to : b .to ≤ greatestLength
+  pub until : b .until ≤ greatestLength
+  pub count : b .count ≤ greatestLength
+
+-- those of steps 1 to 5
+pub record FrontSound (p : List ℕ) : Type 0 where
   pub long : length p ≡ planWords
   pub rows : rowsIn p ≤ 64
   pub fresh : freshIn p ≤ rowsIn p
-  pub table : rowAt (rowsIn p) ≤ m
-  pub entries : entriesEndIn p ≤ indexEndIn p
-  pub names : namesEndIn p ≤ namelistEndIn p
-  pub namesHigh : namelistEndIn p ≤ half
-  pub nameMove : Fits (nameMove p)
-  pub segments : segmentsIn p ≤ half / 8
-  pub indexMove : Fits (indexMove p)
-  pub slots : slotsIn p ≤ half / 8
+  pub nameMove : Small (nameMove p)
+  pub indexMove : Small (indexMove p)
   pub newRows : (j : ℕ) → j < freshIn p → newRow p j < 64
+
+-- all of them, with a sheet of m bytes
+pub record Sound (m : ℕ) (p : List ℕ) : Type 0 where
+  pub front : FrontSound p
+  pub table : rowAt (rowsIn p) ≤ m
+  pub slot : slotIn p ≤ greatestLength
   pub slotRows : (s : ℕ) → s < rowsIn p → slotRow p s < rowsIn p
   pub slotIds : (s : ℕ) → s < rowsIn p → slotId p s < 65536
 

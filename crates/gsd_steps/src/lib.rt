@@ -35,15 +35,14 @@ use numbers::SLOTS;
 ghost use mathlib.Core.Path.{_≡_};
 ghost use Prim.Native.Nat.{_+_, _-_, _*_, _/_, _%_, _≤_, _<_, min};
 ghost use lib.ListN.{getD, length};
-ghost use Rattle.gsd_stores.specs.Stores.{half};
+ghost use Rattle.gsd_format.specs.Header.{greatestLength};
 ghost use Rattle.gsd_stores.specs.Sheet.{rowAt, rowSize};
 ghost use Rattle.gsd_sheet.specs.Columns.{planWords, nameFrom, dataFrom, newRow, dataTo, nameTo};
-ghost use Rattle.gsd_steps.specs.Numbers.{rowsIn, entriesEndIn, indexEndIn, namesEndIn, namelistEndIn, segmentsIn, slotsIn};
+ghost use Rattle.gsd_steps.specs.Numbers.{rowsIn, segmentsIn, slotsIn};
 ghost use Rattle.gsd_steps.specs.Steps.{slotRow, slotId, metaOf};
-ghost use Rattle.gsd_extents.specs.Exec.{Good};
 ghost use Rattle.gsd_extents.specs.Extents.{number, none, copied, rowData, name};
 ghost use Rattle.gsd_steps.specs.Steps.{clearExtent, nameMove, indexMove, moveExtent};
-ghost use Rattle.gsd_steps.specs.Steps.{ofFour, entryPlace, entryWord, entryExtent, extentsOf, extentCount, Fits, Sound};
+ghost use Rattle.gsd_steps.specs.Steps.{ofFour, entryWord, entryExtent, frontOf, frontCount, extentsOf, extentCount, Small, FrontSound, Sound};
 
 fn number_extent(to: usize, words: usize, value: u64) -> Extent
     ensures { λ r. ⌜ r ≡ number to words value ⌝ }
@@ -77,22 +76,35 @@ fn at_most_one(n: usize) -> usize
     if n < 1 { 0 } else { 1 }
 }
 
+// a less b, 0 where b is greater: the numbers of a plan may be any.
+fn less(a: usize, b: usize) -> usize
+    ensures { λ r. ⌜ r ≡ a - b ⌝ }
+{
+    if a < b {
+        return 0;
+    }
+    a - b
+}
+
+fn words_of(bytes: usize) -> usize
+    ensures { λ r. ⌜ r ≡ (bytes + 7) / 8 ⌝ }
+{
+    bytes / 8 + (bytes % 8 + 7) / 8
+}
+
 // Step 1.
 fn clear_extent(plan: &[u64], k: usize) -> Extent
     requires long { ⌜ length (now plan) ≡ planWords ⌝ }
-    requires entries { ⌜ entriesEndIn (now plan) ≤ indexEndIn (now plan) ⌝ }
-    requires names { ⌜ namesEndIn (now plan) ≤ namelistEndIn (now plan) ⌝ }
-    requires high { ⌜ namelistEndIn (now plan) ≤ half ⌝ }
     requires which { ⌜ k < 3 ⌝ }
     ensures { λ r. ⌜ r ≡ clearExtent (now (plan .entry)) k ⌝ }
 {
     if k == 0 {
         let first = plan[ENTRIES_END] as usize;
-        return number_extent(first, (plan[INDEX_END] as usize - first) / 8, 0);
+        return number_extent(first, less(plan[INDEX_END] as usize, first) / 8, 0);
     }
     let end = plan[NAMES_END] as usize;
     let first = end / 8 * 8;
-    let words = (plan[NAMELIST_END] as usize - first) / 8;
+    let words = less(plan[NAMELIST_END] as usize, first) / 8;
     let kept = at_most_one(words);
     if k == 1 {
         return copy_extent(first, kept, first, end);
@@ -104,8 +116,6 @@ fn clear_extent(plan: &[u64], k: usize) -> Extent
 fn data_extent(plan: &[u64], i: usize) -> Extent
     requires long { ⌜ length (now plan) ≡ planWords ⌝ }
     requires row { ⌜ i < 64 ⌝ }
-    requires order { ⌜ dataFrom (now plan) i ≤ nameFrom (now plan) (i + 1) ⌝ }
-    requires high { ⌜ nameFrom (now plan) (i + 1) ≤ half ⌝ }
     ensures { λ r. ⌜ r ≡ rowData (dataTo (now (plan .entry)) i) (dataFrom (now (plan .entry)) i) (nameFrom (now (plan .entry)) (i + 1)) ⌝ }
 {
     let from = plan[DATA_FROM + i] as usize;
@@ -113,7 +123,7 @@ fn data_extent(plan: &[u64], i: usize) -> Extent
     Extent {
         kind: DATA,
         to: plan[DATA_TO + i] as usize,
-        words: (until - from + 7) / 8,
+        words: words_of(less(until, from)),
         from,
         until,
         value: 0,
@@ -133,7 +143,7 @@ pub struct Move {
 
 fn name_move(plan: &[u64]) -> Move
     requires long { ⌜ length (now plan) ≡ planWords ⌝ }
-    requires segments { ⌜ segmentsIn (now plan) ≤ half / 8 ⌝ }
+    requires segments { ⌜ segmentsIn (now plan) ≤ greatestLength ⌝ }
     ensures { λ r. ⌜ r ≡ nameMove (now (plan .entry)) ⌝ }
 {
     let count = plan[SEGMENTS];
@@ -149,7 +159,7 @@ fn name_move(plan: &[u64]) -> Move
 
 fn index_move(plan: &[u64]) -> Move
     requires long { ⌜ length (now plan) ≡ planWords ⌝ }
-    requires slots { ⌜ slotsIn (now plan) ≤ half / 8 ⌝ }
+    requires slots { ⌜ slotsIn (now plan) ≤ greatestLength ⌝ }
     ensures { λ r. ⌜ r ≡ indexMove (now (plan .entry)) ⌝ }
 {
     let count = plan[SLOTS];
@@ -165,7 +175,7 @@ fn index_move(plan: &[u64]) -> Move
 
 // Steps 3 and 5.
 fn move_extent(b: Move, k: usize) -> Extent
-    requires fits { ⌜ Fits b ⌝ }
+    requires small { ⌜ Small b ⌝ }
     requires header { ⌜ b .header < 32 ⌝ }
     requires which { ⌜ k < 4 ⌝ }
     ensures { λ r. ⌜ r ≡ moveExtent b k ⌝ }
@@ -173,10 +183,10 @@ fn move_extent(b: Move, k: usize) -> Extent
     if b.count == 0 {
         return number_extent(0, 0, 0);
     }
-    let listed = (b.until - b.from + 7) / 8;
+    let listed = words_of(less(b.until, b.from));
     match k {
         0 => copy_extent(b.to, listed, b.from, b.until),
-        1 => number_extent(b.to + 8 * listed, b.words - listed, 0),
+        1 => number_extent(b.to + 8 * listed, less(b.words, listed), 0),
         2 => number_extent(b.header, 1, b.to as u64),
         _ => number_extent(b.header + 8, 1, b.count),
     }
@@ -187,8 +197,6 @@ fn name_extent(plan: &[u64], j: usize) -> Extent
     requires long { ⌜ length (now plan) ≡ planWords ⌝ }
     requires name { ⌜ j < 64 ⌝ }
     requires row { ⌜ newRow (now plan) j < 64 ⌝ }
-    requires order { ⌜ nameFrom (now plan) (newRow (now plan) j) ≤ dataFrom (now plan) (newRow (now plan) j) ⌝ }
-    requires high { ⌜ nameTo (now plan) j + (dataFrom (now plan) (newRow (now plan) j) - nameFrom (now plan) (newRow (now plan) j)) ≤ half ⌝ }
     ensures { λ r. ⌜ r ≡ name (nameTo (now (plan .entry)) j) (nameFrom (now (plan .entry)) (newRow (now (plan .entry)) j))
         (dataFrom (now (plan .entry)) (newRow (now (plan .entry)) j)) ⌝ }
 {
@@ -196,10 +204,11 @@ fn name_extent(plan: &[u64], j: usize) -> Extent
     let from = plan[NAME_FROM + row] as usize;
     let until = plan[DATA_FROM + row] as usize;
     let first = plan[NAME_TO + j] as usize;
+    let size = less(until, from);
     Extent {
         kind: NAME,
         to: first / 8 * 8,
-        words: (first + (until - from) + 7) / 8 - first / 8,
+        words: size / 8 + words_of(first % 8 + size % 8),
         from,
         until,
         value: first as u64,
@@ -250,7 +259,6 @@ fn entry_word(sheet: &[u8], plan: &[u64], s: usize, i: usize) -> u64
 fn entry_extent(sheet: &[u8], plan: &[u64], k: usize) -> Extent
     requires sound { ⌜ Sound (length (now sheet)) (now plan) ⌝ }
     requires word { ⌜ k < 4 * rowsIn (now plan) ⌝ }
-    requires high { ⌜ entryPlace (now plan) (rowsIn (now plan) - 1 - k / 4) (k % 4) ≤ half ⌝ }
     ensures { λ r. ⌜ r ≡ entryExtent (now (sheet .entry)) (now (plan .entry)) k ⌝ }
 {
     let s = plan[ROWS] as usize - 1 - k / 4;
@@ -260,12 +268,11 @@ fn entry_extent(sheet: &[u8], plan: &[u64], k: usize) -> Extent
     number_extent(plan[SLOT] as usize + 32 * s + place, 1, value)
 }
 
-// The r-th extent of a plan.
-pub fn extent_at(sheet: &[u8], plan: &[u64], r: usize) -> Extent
-    requires sound { ⌜ Sound (length (now sheet)) (now plan) ⌝ }
-    requires extent { ⌜ r < extentCount (now plan) ⌝ }
-    requires good { ⌜ Good half half (getD (extentsOf (now sheet) (now plan)) r none) ⌝ }
-    ensures { λ x. ⌜ x ≡ getD (extentsOf (now (sheet .entry)) (now (plan .entry))) r none ⌝ }
+// The r-th extent of steps 1 to 5.
+pub fn front_extent(plan: &[u64], r: usize) -> Extent
+    requires sound { ⌜ FrontSound (now plan) ⌝ }
+    requires extent { ⌜ r < frontCount (now plan) ⌝ }
+    ensures { λ x. ⌜ x ≡ getD (frontOf (now (plan .entry))) r none ⌝ }
 {
     if r < 3 {
         return clear_extent(plan, r);
@@ -284,9 +291,18 @@ pub fn extent_at(sheet: &[u8], plan: &[u64], r: usize) -> Extent
     if j < fresh {
         return name_extent(plan, j);
     }
-    let e = j - fresh;
-    if e < 4 {
-        return move_extent(index_move(plan), e);
+    move_extent(index_move(plan), j - fresh)
+}
+
+// The r-th extent of a plan.
+pub fn extent_at(sheet: &[u8], plan: &[u64], r: usize) -> Extent
+    requires sound { ⌜ Sound (length (now sheet)) (now plan) ⌝ }
+    requires extent { ⌜ r < extentCount (now plan) ⌝ }
+    ensures { λ x. ⌜ x ≡ getD (extentsOf (now (sheet .entry)) (now (plan .entry))) r none ⌝ }
+{
+    let front = 11 + plan[FRESH] as usize + plan[ROWS] as usize;
+    if r < front {
+        return front_extent(plan, r);
     }
-    entry_extent(sheet, plan, e - 4)
+    entry_extent(sheet, plan, r - front)
 }

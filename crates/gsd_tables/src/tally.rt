@@ -143,22 +143,26 @@ fn say_values(text: &mut [u8; 32768], at: u64, values: &[u64]) -> u64 {
     end
 }
 
-// How many values are told: those of a call whose number is 0; of probes and append at every number.
+// How many values are told at every number: those of probes, append, begin and turn.
+fn told_always(k: usize) -> usize {
+    match k {
+        words::PROBES | words::TURN => 1,
+        words::BEGIN => 2,
+        words::APPEND => 3,
+        _ => 0,
+    }
+}
+
+// How many are told: those of the other calls at the number 0.
 fn told(k: usize, number: u64) -> usize {
-    if k == words::PROBES {
-        return 1;
-    }
-    if k == words::APPEND {
-        return 3;
-    }
     if number != 0 {
-        return 0;
+        return told_always(k);
     }
     match k {
         words::NAME | words::CHUNK | words::ELEMENT => 2,
         words::OPEN => 3,
         words::ENTRY | words::LOOKUP => 7,
-        _ => 0,
+        _ => told_always(k),
     }
 }
 

@@ -5,14 +5,15 @@ use mathlib.Core.List.{List, [], _∷_, _++_}
 use native.Mathlib.Numerals.{add-one}
 use native.Mathlib.Omega.{arith}
 use lib.ListN.{length, getD, take, drop, length-append, take-append-drop}
-use lib.Seq.{take-suc, take-append-le, take-all}
+use lib.Seq.{take-suc, take-all}
 use Rattle.gsd_extents.specs.declared.extent.Extent.{Extent}
 use Rattle.gsd_extents.specs.Exec.{tasks}
 use Rattle.gsd_extents.specs.Extents.{none}
 use Rattle.gsd_extents.proofs.Tasks.{tasksFrom-length, tasks-append}
-use Rattle.gsd_steps.specs.Numbers.{rowsIn, freshIn}
-use Rattle.gsd_steps.specs.Steps.{clearExtent, dataExtent, nameMove, indexMove, moveExtent, nameExtent, entryExtent, tab, extentsOf, extentCount}
-use Rattle.gsd_steps.proofs.Steps.{tab-length, extents-length}
+use Rattle.gsd_steps.specs.Numbers.{rowsIn}
+use Rattle.gsd_steps.specs.Steps.{entryExtent, tab, frontOf, frontCount, extentsOf}
+use Rattle.gsd_steps.proofs.Steps.{front-length}
+use Rattle.gsd_turns.specs.Turns.{wholeOf}
 
 -- the tasks of extents in a row, and of one more extent
 pub count-append : (a b : List Extent) → length (tasks (a ++ b)) ≡ length (tasks a) + length (tasks b)
@@ -37,51 +38,30 @@ unfolding tab tasks
 count-ones f i zero h = refl
 count-ones f i (suc n) h = omega (arith, count-cons (f i) (tab f (suc i) n), h i, count-ones f (suc i) n h)
 
-module _ (sheet p : List ℕ) where
-  -- the extents before the entries
-  abbrev front : List Extent
-  front =
-      tab (clearExtent p) 0 3
-      ++ tab (dataExtent p) 0 (rowsIn p)
-      ++ tab (moveExtent (nameMove p)) 0 4
-      ++ tab (nameExtent p) 0 (freshIn p)
-      ++ tab (moveExtent (indexMove p)) 0 4
+-- the words of the entries do not hang on the sheet, so neither do all
+pub count-extents : (sheet p : List ℕ) → length (tasks (extentsOf sheet p)) ≡ wholeOf p
+unfolding extentsOf entryExtent
+count-extents sheet p =
+    omega (
+      arith,
+      count-append (frontOf p) (tab (entryExtent sheet p) 0 (4 * rowsIn p)),
+      count-ones (entryExtent sheet p) 0 (4 * rowsIn p) (λ k. refl),
+    )
 
-  abbrev entries : List Extent
-  entries = tab (entryExtent sheet p) 0 (4 * rowsIn p)
-
-  extents-front : extentsOf sheet p ≡ front ++ entries
-  unfolding extentsOf
-  extents-front = refl
-
-  front-length : length front ≡ 11 + freshIn p + rowsIn p
-  front-length = simp (length-append, tab-length) (omega arith)
-
-  count-entries : length (tasks entries) ≡ 4 * rowsIn p
-  unfolding entryExtent
-  count-entries = count-ones (entryExtent sheet p) 0 (4 * rowsIn p) (λ k. refl)
-
-  count-extents : length (tasks (extentsOf sheet p)) ≡ length (tasks front) + 4 * rowsIn p
-  count-extents = rw extents-front (omega (arith, count-append front entries, count-entries))
-
-  take-front : (r : ℕ) → r ≤ 11 + freshIn p + rowsIn p → take r (extentsOf sheet p) ≡ take r front
-  take-front r h = rw extents-front (take-append-le r front entries (omega (arith, front-length)))
-
-  -- the entries' words, and the words of the first r extents
+-- the entries' words, and the words of the first r extents of steps 1 to 5
+module _ (p : List ℕ) where
   abbrev pub counted : ℕ → ℕ
-  counted r = 4 * rowsIn p + length (tasks (take r (extentsOf sheet p)))
+  counted r = 4 * rowsIn p + length (tasks (take r (frontOf p)))
 
   pub counted-none : counted 0 ≡ 4 * rowsIn p
   unfolding tasks
   counted-none = omega arith
 
-  pub counted-more : (r : ℕ) (x : Extent) → x ≡ getD (extentsOf sheet p) r none → r < extentCount p → counted (r + 1) ≡ counted r + x .words
-  counted-more r x e h = rw e (omega (arith, count-next (extentsOf sheet p) r (rw extents-length h)))
+  pub counted-more : (r : ℕ) (x : Extent) → x ≡ getD (frontOf p) r none → r < frontCount p → counted (r + 1) ≡ counted r + x .words
+  counted-more r x e h = rw e (omega (arith, count-next (frontOf p) r (rw front-length h)))
 
-  pub counted-within : (r : ℕ) → r ≤ 11 + freshIn p + rowsIn p → counted r ≤ length (tasks (extentsOf sheet p))
-  counted-within r h = rw take-front (omega (arith, count-extents, count-take front r))
+  pub counted-within : (r : ℕ) → counted r ≤ wholeOf p
+  counted-within r = omega (arith, count-take (frontOf p) r)
 
-  pub counted-all : counted (11 + freshIn p + rowsIn p) ≡ length (tasks (extentsOf sheet p))
-  counted-all =
-      let all : take (11 + freshIn p + rowsIn p) front ≡ front = take-all (11 + freshIn p + rowsIn p) front (omega (arith, front-length)) in
-      rw (take-front (11 + freshIn p + rowsIn p) (omega arith), all) (omega (arith, count-extents))
+  pub counted-all : counted (frontCount p) ≡ wholeOf p
+  counted-all = ap (λ l. 4 * rowsIn p + length (tasks l)) (take-all (frontCount p) (frontOf p) (omega (arith, front-length p)))

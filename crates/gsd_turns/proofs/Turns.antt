@@ -3,12 +3,12 @@
 use Prim.Native.Nat.{ℕ, suc, _+_, _-_, _≤_, _<_, min}
 use mathlib.Core.Path.{_≡_, refl, sym, _∙_, ap}
 use mathlib.Core.List.{List, [], _∷_}
-use native.Mathlib.Nat.{add-zero, sub-self}
+use native.Mathlib.Nat.{add-zero, zero-add, sub-self}
 use native.Mathlib.Numerals.{add-one}
 use native.Mathlib.Decide.{decLe}
 use native.Mathlib.Omega.{arith}
 use lib.ListN.{length, getD, take, drop, length-drop, drop-of-length-le, List·getD-eq-default}
-use lib.Seq.{drop-cons, drop-drop, drop-append-add, take-add, getD-take, getD-drop}
+use lib.Seq.{drop-cons, drop-drop, drop-nil, drop-append-add, take-add, getD-take, getD-drop}
 use Rattle.gsd_stores.specs.Stores.{Store, after}
 use Rattle.gsd_extents.specs.declared.extent.Extent.{Extent}
 use Rattle.gsd_extents.specs.Exec.{Good, Task, tasksFrom, tasks, rest, exec, storesOf}
@@ -18,7 +18,7 @@ use Rattle.gsd_extents.proofs.Tasks.{exec-append, exec-length, exec-after, stor
 use Rattle.gsd_steps.specs.Steps.{extentsOf, extentCount, Ready}
 use Rattle.gsd_steps.proofs.Steps.{extents-length}
 use Rattle.gsd_turns.specs.declared.turn.Turned.{Turned}
-use Rattle.gsd_turns.specs.Turns.{ahead, Cursor, Walked, TurnSays}
+use Rattle.gsd_turns.specs.Turns.{ahead, Cursor, Stands, Walked, TurnSays}
 use Rattle.gsd_turns.proofs.Count.{count-cons}
 
 -- Some of the tasks are done
@@ -159,6 +159,46 @@ turns-join sheet img p r w l₁ l₂ t u img₁ img₂ h g =
       made = omega (arith, h .made, g .made, there, h .walked .within);
       cursor = g .cursor;
     }
+
+-- The cursor behind the first `done` tasks is sought extent by extent: at extent r there are still `left` of them to pass
+
+pub record Sought (sheet p : List ℕ) (done r left : ℕ) : Type 0 where
+  pub extent : r ≤ length (extentsOf sheet p)
+  pub here : drop left (ahead sheet p r 0) ≡ drop done (tasks (extentsOf sheet p))
+
+pub sought-none : (sheet p : List ℕ) (done : ℕ) → Sought sheet p done 0 done
+sought-none sheet p done = record { extent = omega arith; here = ap (drop done) (sym (tasks-rest (extentsOf sheet p))) }
+
+module _ {sheet p : List ℕ} {done r left : ℕ} (h : Sought sheet p done r left) where
+  module _ (x : Extent) (here : x ≡ getD (extentsOf sheet p) r none) (inside : r < extentCount p) where
+    -- the extent is passed
+    pub sought-more : x .words ≤ left → Sought sheet p done (r + 1) (left - x .words)
+    sought-more l =
+        let all : drop (x .words) (ahead sheet p r 0) ≡ ahead sheet p (r + 1) 0
+        = ahead-drop sheet p r 0 x here inside (x .words) (omega arith) ∙ ap (ahead sheet p r) (zero-add (x .words))
+        ∙ ahead-next sheet p r (x .words) x here inside (omega arith) in
+        let sum : x .words + (left - x .words) ≡ left = omega arith in
+        record {
+          extent = omega (arith, extents-length sheet p);
+          here = ap (drop (left - x .words)) (sym all) ∙ drop-drop (left - x .words) (x .words) (ahead sheet p r 0)
+              ∙ ap (λ n. drop n (ahead sheet p r 0)) sum ∙ h .here;
+        }
+
+    -- the cursor stands in it
+    pub sought-here : left < x .words → Stands sheet p done r left
+    sought-here l = record {
+      cursor = record { extent = h .extent; word = rw (← here) (omega arith) };
+      left = ap (ahead sheet p r) (sym (zero-add left)) ∙ sym (ahead-drop sheet p r 0 x here inside left (omega arith)) ∙ h .here;
+    }
+
+  -- or behind all extents
+  pub sought-end : extentCount p ≤ r → Stands sheet p done r 0
+  sought-end l =
+      let none-left : ahead sheet p r 0 ≡ [] = ahead-end sheet p r 0 l in
+      record {
+        cursor = record { extent = h .extent; word = omega arith };
+        left = none-left ∙ sym (drop-nil left) ∙ ap (drop left) (sym none-left) ∙ h .here;
+      }
 
 -- The cursor before each task
 

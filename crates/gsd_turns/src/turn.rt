@@ -2,15 +2,15 @@
 use gsd_extents::Extent;
 use gsd_extents::stores;
 use gsd_steps::extent_at;
+use gsd_steps::front_extent;
 use gsd_steps::numbers::FRESH;
 use gsd_steps::numbers::ROWS;
 ghost use mathlib.Core.Path.{_≡_};
-ghost use Prim.Native.Nat.{_-_, _≤_, min};
+ghost use Prim.Native.Nat.{_-_, _≤_, _<_, min};
 ghost use lib.ListN.{length};
-ghost use Rattle.gsd_stores.specs.Stores.{half};
-ghost use Rattle.gsd_extents.specs.Exec.{Good, tasksFrom, tasks, exec};
-ghost use Rattle.gsd_steps.specs.Steps.{extentsOf, Ready, copiedIn};
-ghost use Rattle.gsd_turns.specs.Turns.{Cursor, TurnSays};
+ghost use Rattle.gsd_extents.specs.Exec.{Good, tasksFrom, exec};
+ghost use Rattle.gsd_steps.specs.Steps.{FrontSound, Sound, Ready, copiedIn};
+ghost use Rattle.gsd_turns.specs.Turns.{Cursor, TurnSays, Stands, wholeOf};
 
 // The cursor (the next extent, and the next word of it) and how many stores were made.
 pub struct Turned {
@@ -76,17 +76,47 @@ pub fn turn(
     }
 }
 
+// An extent, and a word of it.
+pub struct Place {
+    pub extent: usize,
+    pub word: usize,
+}
+
+// The cursor behind the first `done` stores of a plan, or behind all its extents.
+pub fn seek(sheet: &[u8], plan: &[u64], done: u64) -> Place
+    requires { ⌜ Sound (length (now sheet)) (now plan) ⌝ }
+    ensures { λ c. ⌜ Stands (now (sheet .entry)) (now (plan .entry)) done (c .extent) (c .word) ⌝ }
+{
+    let all = 11 + plan[FRESH] as usize + 5 * plan[ROWS] as usize;
+    let mut r = 0;
+    let mut left = done;
+    while r < all {
+        let x = extent_at(sheet, plan, r);
+        let words = x.words as u64;
+        if left < words {
+            return Place {
+                extent: r,
+                word: left as usize,
+            };
+        }
+        left -= words;
+        r += 1;
+    }
+    Place { extent: r, word: 0 }
+}
+
 // The number of all stores of a plan. Each of an entry's four words is an extent of its own.
-pub fn whole(sheet: &[u8], plan: &[u64]) -> u64
-    requires { ⌜ Ready half (now sheet) (now plan) ⌝ }
-    ensures { λ r. ⌜ r ≡ length (tasks (extentsOf (now (sheet .entry)) (now (plan .entry)))) ⌝ }
+pub fn whole(plan: &[u64]) -> u64
+    requires sound { ⌜ FrontSound (now plan) ⌝ }
+    requires count { ⌜ wholeOf (now plan) < 18446744073709551616 ⌝ }
+    ensures { λ r. ⌜ r ≡ wholeOf (now (plan .entry)) ⌝ }
 {
     let rows = plan[ROWS] as usize;
     let count = 11 + plan[FRESH] as usize + rows;
     let mut sum = 4 * rows as u64;
     let mut r = 0;
     while r < count {
-        let x = extent_at(sheet, plan, r);
+        let x = front_extent(plan, r);
         sum += x.words as u64;
         r += 1;
     }
@@ -94,11 +124,11 @@ pub fn whole(sheet: &[u8], plan: &[u64]) -> u64
 }
 
 // The listed entries that step 5 copies. Its first extent holds their words, and has none where the index stays.
-pub fn copied(sheet: &[u8], plan: &[u64]) -> u64
-    requires { ⌜ Ready half (now sheet) (now plan) ⌝ }
+pub fn copied(plan: &[u64]) -> u64
+    requires { ⌜ FrontSound (now plan) ⌝ }
     ensures { λ r. ⌜ r ≡ copiedIn (now (plan .entry)) ⌝ }
 {
     let first = 7 + plan[FRESH] as usize + plan[ROWS] as usize;
-    let x = extent_at(sheet, plan, first);
+    let x = front_extent(plan, first);
     x.words as u64 / 4
 }

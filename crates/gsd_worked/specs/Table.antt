@@ -7,7 +7,7 @@ use lib.ListN.{getD, length, take, drop, replicate}
 use Rattle.gsd_format.specs.Bytes.{same, le, leBytes, zeros, stored}
 use Rattle.gsd_format.specs.Ascii.{ascii}
 use Rattle.gsd_format.specs.Types.{sizeOf}
-use Rattle.gsd_format.specs.Header.{version10, version20, version21, versionOf, layoutOf}
+use Rattle.gsd_format.specs.Header.{version10, version20, version21, versionOf, layoutOf, headerWords}
 use Rattle.gsd_format.specs.Header.{indexPlace, namelistPlace, versionPlace, slotSize, segmentSize}
 use Rattle.gsd_format.specs.Names.{namesOf, flat}
 use Rattle.gsd_format.specs.Entries.{nPlace, locationPlace, entriesOf}
@@ -280,7 +280,7 @@ gaps =
 
 -- index, slots, name list, segments, then verdict, frames, names, entries
 unfoldable pub blocks : List ℕ → List ℕ
-blocks img = layoutOf img .index ∷ layoutOf img .slots ∷ layoutOf img .namelist ∷ layoutOf img .segments ∷ shown img
+blocks img = headerWords img ++ shown img
 
 -- what 0 slots and 0 segments stand for
 unfoldable pub defaults : List Case
@@ -696,6 +696,24 @@ moving =
       says = "1 slot and five rows, one to an append: 1 + 2 + 4 = 7 copied, 8 slots, 5 entries, 7 < 10";
       got = copiedBy (one ∷ one ∷ one ∷ one ∷ one ∷ []) (madeIn 1 1 1024);
       expected = 0 ∷ 1 ∷ 2 ∷ 0 ∷ 4 ∷ 8 ∷ 5 ∷ [];
+    }
+    ∷ []
+
+-- what turns expect of the header
+unfoldable pub turns : List Case
+turns =
+    let a : List ℕ = appended (freshIn 1024) sheetA 23 in
+    let long : List ℕ = sheetFrom (bytesRow "a name that has with its zero more bytes than are left in one segment" [] ∷ []) in
+    let after : List ℕ → ℕ → List ℕ = λ sheet k. headerWords (appended a sheet k) in
+    record {
+      says = "after 33, 34, 35 and 36 stores of sheet B: the index moves with store 34, its slots with 35";
+      got = after sheetB 33 ++ after sheetB 34 ++ after sheetB 35 ++ after sheetB 36;
+      expected = 256 ∷ 2 ∷ 320 ∷ 1 ∷ 576 ∷ 2 ∷ 320 ∷ 1 ∷ 576 ∷ 4 ∷ 320 ∷ 1 ∷ 576 ∷ 4 ∷ 320 ∷ 1 ∷ [];
+    }
+    ∷ record {
+      says = "a name block that moves: its place with store 29, its segments with 30";
+      got = after long 28 ++ after long 29 ++ after long 30;
+      expected = 256 ∷ 2 ∷ 320 ∷ 1 ∷ 256 ∷ 2 ∷ 448 ∷ 1 ∷ 256 ∷ 2 ∷ 448 ∷ 2 ∷ [];
     }
     ∷ []
 

@@ -48,22 +48,24 @@ fn print_last_duty(image: &[u8]) -> Result<(), Box<dyn Error>> {
     Ok(())
 }
 
-/// Makes at most `limit` stores of a frame's append, and says whether the frame is there; a frame of
-/// nothing is none. Readings that hold a NaN are refused and left out: the frame then has no chunk of
-/// them.
+/// Makes at most `limit` stores of a frame's append, in one turn (bin/turns.rs makes more of them), and
+/// says whether the frame is there; a frame of nothing is none. Readings that hold a NaN are refused
+/// and left out: the frame then has no chunk of them.
 fn append(image: &mut [u8], frame: Frame, limit: u64) -> Result<bool, Refusal> {
     if frame.probe.is_none() && frame.duty.is_none() {
         return Ok(false);
     }
-    match dialmoth::append(image, &frame.sheet(), limit) {
+    let sheet = frame.sheet();
+    match dialmoth::begin(image, &sheet) {
         Err(Refusal::NAN_IN_SHEET) => {
             println!("append: a reading is a NaN");
             append(image, Frame { probe: None, ..frame }, limit)
         }
         Err(refusal) => Err(refusal),
-        Ok(stores) => {
-            println!("append: {} of {} stores", stores.done, stores.whole);
-            Ok(stores.is_whole())
+        Ok(mut begun) => {
+            let made = dialmoth::turn(&mut begun.state, image, &sheet, limit)?;
+            println!("append: {made} of {} stores", begun.whole);
+            Ok(made == begun.whole)
         }
     }
 }
@@ -82,12 +84,12 @@ fn main() -> Result<(), Box<dyn Error>> {
     append(&mut image, Frame { probe: evening, duty: None }, u64::MAX)?;
     print_last_duty(&image)?;
 
-    // An append is stopped after ten stores: the last frame reads as before.
+    // An append stops after ten stores, and its state is lost: the last frame reads as before.
     let night = Frame { probe: Some([18.5, 18.75, 17.5]), duty: Some(55) };
     assert!(!append(&mut image, night, 10)?);
     print_last_duty(&image)?;
 
-    // The same append is made again, and now to its end.
+    // The same append is begun again, and now made to its end.
     assert!(append(&mut image, night, u64::MAX)?);
     print_last_duty(&image)?;
 

@@ -1,6 +1,6 @@
 //! The calls with answers as `Result`s, for tests that hold a library to the paper directly.
 
-use crate::library::{Create, Library};
+use crate::library::{Create, Library, State, STATE_WORDS};
 
 pub type Answer<T> = Result<T, u64>;
 
@@ -79,6 +79,18 @@ pub trait Ask: Library {
         let mut image = image.to_vec();
         let stores = self.put(&mut image, sheet, limit);
         (image, stores)
+    }
+
+    /// The state of a beginning, with whole and copied; a refused one has a state too.
+    fn begun(&self, image: &[u8], sheet: &[u8]) -> (State, Answer<[u64; 2]>) {
+        let mut state = [0x5555; STATE_WORDS];
+        let answer = answer(|out| self.begin(image, sheet, &mut state, out));
+        (state, answer)
+    }
+
+    /// How many stores the turn made.
+    fn go_on(&self, state: &mut State, image: &mut [u8], sheet: &[u8], limit: u64) -> Answer<u64> {
+        answer(|out| self.turn(state, image, sheet, limit, out)).map(|[made]| made)
     }
 
     /// What the listing program prints.

@@ -3,12 +3,12 @@
 //! Each is a function that panics on a wrong answer, so that the same cases hold the plain Rust
 //! implementation and the archive to the paper itself, not only to each other.
 
-use crate::ask::Ask;
+use crate::ask::{Answer, Ask};
 use crate::demand3::{Call, Run};
 use crate::images::{self, get64, put32, put64, put_names, put_slots, sheet, version, Row, Slot};
 use crate::images::{frames_to_ask, segments_for, GREATEST_FRAME, GROWING, V1_0, V2_0, V2_1};
-use crate::library::{Create, Library};
-use crate::{move_cases, moving, old_cases, start_cases};
+use crate::library::{Create, Library, REFUSED};
+use crate::{move_cases, moving, old_cases, start_cases, turn_cases};
 use std::ops::Deref;
 
 /// A library, and the version of the images that it is asked about.
@@ -46,6 +46,28 @@ impl Versioned<'_> {
     ) -> Vec<u8> {
         self.of_version(images::blank(length, index, slots, names, segments))
     }
+
+    /// An append in two turns, and beside it as one call: done, whole and copied.
+    pub fn put(&self, image: &mut [u8], sheet: &[u8], limit: u64) -> Answer<[u64; 3]> {
+        let (joined, stores) = self.library.after(image, sheet, limit);
+        let (mut state, begun) = self.begun(image, sheet);
+        assert_eq!(begun, stores.map(|[_, whole, copied]| [whole, copied]));
+        let mut turn = |limit| self.go_on(&mut state, image, sheet, limit);
+        let turns = [turn(limit / 2), turn(limit - limit / 2)];
+        match stores {
+            Ok([done, ..]) => assert_eq!(turns.map(Result::unwrap).iter().sum::<u64>(), done),
+            Err(_) => assert_eq!((turns, state == REFUSED), ([Err(32); 2], true)),
+        }
+        assert!(*image == joined, "other bytes in turns than by one call");
+        stores
+    }
+
+    /// The image that `limit` stores leave, with done, whole and copied.
+    pub fn after(&self, image: &[u8], sheet: &[u8], limit: u64) -> (Vec<u8>, Answer<[u64; 3]>) {
+        let mut image = image.to_vec();
+        let stores = self.put(&mut image, sheet, limit);
+        (image, stores)
+    }
 }
 
 pub type Case = (&'static str, fn(&Versioned));
@@ -66,6 +88,7 @@ pub fn all() -> Vec<(String, Test)> {
         (CASES, &both),
         (start_cases::CASES, &both),
         (move_cases::CASES, &both),
+        (turn_cases::CASES, &both),
         (old_cases::CASES, &old),
     ] {
         for &(name, case) in cases {
@@ -217,6 +240,7 @@ pub fn refused(l: &Versioned, image: &[u8], sheet: &[u8], number: u64) {
         let (mut after, mut out) = (image.to_vec(), [0x5555; 3]);
         assert_eq!((l.append(&mut after, sheet, limit, &mut out), out), (number, [0; 3]));
         assert!(after == image, "a refusal changes nothing");
+        assert_eq!(l.put(&mut after, sheet, limit), Err(number));
     }
 }
 

@@ -2,7 +2,8 @@
 
 use crate::images::{around, frames_to_ask, Row};
 use crate::lent::{Flush, Lent};
-use crate::library::{Create, Library, Reference};
+use crate::library::{Create, Library, Reference, State, REFUSED, STATE_WORDS};
+use crate::random::Rng;
 use std::collections::BTreeMap;
 use std::fmt::Write;
 
@@ -19,7 +20,11 @@ struct Out<const K: usize> {
 
 impl<const K: usize> Out<K> {
     fn new() -> Out<K> {
-        Out { front: [BEFORE; 2], numbers: [BEFORE; K], behind: [BEFORE; 2] }
+        Out::of([BEFORE; K])
+    }
+
+    fn of(numbers: [u64; K]) -> Out<K> {
+        Out { front: [BEFORE; 2], numbers, behind: [BEFORE; 2] }
     }
 }
 
@@ -36,6 +41,9 @@ pub struct Check<'l> {
     theirs: Lent,
     argument: Lent,
     second: Lent,
+    /// A second copy of the image, for the append as one call.
+    joined: Lent,
+    state: Lent,
     ours: Vec<u8>,
     before: Vec<u8>,
     flush: Flush,
@@ -58,6 +66,8 @@ impl<'l> Check<'l> {
             theirs: Lent::new(1 << 16),
             argument: Lent::new(1 << 16),
             second: Lent::new(1 << 10),
+            joined: Lent::new(1 << 16),
+            state: Lent::new(8 * STATE_WORDS),
             ours: Vec::new(),
             before: Vec::new(),
             flush: Flush::End,
@@ -89,6 +99,17 @@ impl<'l> Check<'l> {
         &self.ours
     }
 
+    /// The library's copy of the image.
+    pub fn lent(&self) -> &[u8] {
+        self.theirs.bytes()
+    }
+
+    /// Counts a comparison made elsewhere, whose answer was to be this number.
+    pub fn compared(&mut self, expected: u64) {
+        self.comparisons += 1;
+        *self.met.entry(expected).or_default() += 1;
+    }
+
     /// Compares what both answered, and gives the plain implementation's answer; `None` is a refusal.
     fn judge<const K: usize>(
         &mut self,
@@ -96,8 +117,7 @@ impl<'l> Check<'l> {
         (expected, ours): (u64, Out<K>),
         call: impl FnOnce() -> String,
     ) -> Option<[u64; K]> {
-        self.comparisons += 1;
-        *self.met.entry(expected).or_default() += 1;
+        self.compared(expected);
         let strayed = [theirs.front, theirs.behind] != [[BEFORE; 2]; 2];
         let (theirs, ours) = ((number, theirs.numbers), (expected, ours.numbers));
         if theirs != ours || strayed {
@@ -231,18 +251,100 @@ impl<'l> Check<'l> {
         answer
     }
 
+    /// An append as one call, and beside it in turns whose limits add up to this one or pass the whole.
     pub fn append(&mut self, sheet: &[u8], limit: u64) -> Option<[u64; 3]> {
         let (mut theirs, mut ours) = (Out::<3>::new(), Out::new());
         self.before.clone_from(&self.ours);
         let lent = self.argument.lend(sheet, self.flush);
-        let number = self.library.append(self.theirs.bytes_mut(), lent, limit, &mut theirs.numbers);
+        let joined = self.joined.lend(self.theirs.bytes(), self.flush);
+        let number = self.library.append(joined, lent, limit, &mut theirs.numbers);
         self.argument_kept(sheet);
         let expected = Reference.append(&mut self.ours, sheet, limit, &mut ours.numbers);
+        let numbers = ours.numbers;
         let call = || format!("append limit {limit} sheet {}", hex(sheet));
         let answer = self.judge((number, theirs), (expected, ours), call);
         self.accepted += u64::from(answer.is_some());
-        self.judge_bytes(call);
+        self.in_turns(sheet, limit, (expected, numbers));
+        self.judge_bytes(|| format!("in turns, {}", call()));
+        if self.joined.bytes() != self.theirs.bytes() || !self.joined.margin_kept() {
+            let before = hex(&self.before);
+            self.fail(|| format!("{}\n  other bytes than in turns\n  image {before}", call()));
+        }
         answer
+    }
+
+    /// Begin and turn, on the library's copy of the image alone.
+    fn in_turns(&mut self, sheet: &[u8], limit: u64, (expected, numbers): (u64, [u64; 3])) {
+        let [done, whole, copied] = numbers;
+        let mut state = [BEFORE; STATE_WORDS];
+        let (number, out) = self.begin(&mut state, sheet);
+        let call = || format!("begin sheet {}", hex(sheet));
+        self.judge((number, Out::of(out)), (expected, Out::of([whole, copied])), call);
+        if self.theirs.bytes() != self.before {
+            self.fail(|| format!("{}\n  stored", call()));
+        }
+        if expected != 0 {
+            if state != REFUSED {
+                self.fail(|| format!("{}\n  a refused beginning's state is not 0", call()));
+            }
+            let (number, made) = self.turn(&mut state, sheet, limit);
+            let call = || format!("turn limit {limit} behind a refused {}", call());
+            self.judge((number, Out::of([made])), (32, Out::of([0])), call);
+            return;
+        }
+        // The same for the same append.
+        let mut rng = Rng::new(limit ^ (sheet.len() as u64) << 40 ^ (self.ours.len() as u64) << 20);
+        let mut rest = whole;
+        for part in parts(&mut rng, limit, whole) {
+            let (number, made) = self.turn(&mut state, sheet, part);
+            let call = || format!("turn limit {part} with {rest} of {whole} to do, {}", call());
+            self.judge((number, Out::of([made])), (0, Out::of([rest.min(part)])), call);
+            rest -= rest.min(part);
+        }
+        debug_assert_eq!(rest, whole - done);
+    }
+
+    /// Begin on the library's copy of the image: the number, whole and copied.
+    pub fn begin(&mut self, state: &mut State, sheet: &[u8]) -> (u64, [u64; 2]) {
+        let mut out = Out::new();
+        let lent_state = self.state.lend_words(state, self.flush);
+        let lent = self.argument.lend(sheet, self.flush);
+        let number = self.library.begin(self.theirs.bytes(), lent, lent_state, &mut out.numbers);
+        *state = *lent_state;
+        self.kept_around(sheet, &out);
+        (number, out.numbers)
+    }
+
+    /// A turn on the library's copy of the image: the number, and how many stores it says it made.
+    pub fn turn(&mut self, state: &mut State, sheet: &[u8], limit: u64) -> (u64, u64) {
+        let mut out = Out::new();
+        let lent_state = self.state.lend_words(state, self.flush);
+        let lent = self.argument.lend(sheet, self.flush);
+        let image = self.theirs.bytes_mut();
+        let number = self.library.turn(lent_state, image, lent, limit, &mut out.numbers);
+        *state = *lent_state;
+        self.kept_around(sheet, &out);
+        (number, out.numbers[0])
+    }
+
+    /// An append with limit 0 on the library's copy of the image.
+    pub fn append_nothing(&mut self, sheet: &[u8]) {
+        let before = self.theirs.bytes().to_vec();
+        let mut out = Out::new();
+        let lent = self.argument.lend(sheet, self.flush);
+        self.library.append(self.theirs.bytes_mut(), lent, 0, &mut out.numbers);
+        self.kept_around(sheet, &out);
+        if self.theirs.bytes() != before {
+            self.fail(|| "an append with limit 0 stored".into());
+        }
+    }
+
+    fn kept_around<const K: usize>(&mut self, sheet: &[u8], out: &Out<K>) {
+        self.argument_kept(sheet);
+        let kept = self.theirs.margin_kept() && self.state.margin_kept();
+        if !kept || [out.front, out.behind] != [[BEFORE; 2]; 2] {
+            self.fail(|| "a call wrote beside the image, the state or out".into());
+        }
     }
 
     /// No call writes a name, a text or a sheet.
@@ -312,6 +414,27 @@ impl<'l> Check<'l> {
         }
         found
     }
+}
+
+/// Limits of turns that add up to this one, or to some number from the whole on where it is not below.
+fn parts(rng: &mut Rng, limit: u64, whole: u64) -> Vec<u64> {
+    let mut rest = limit;
+    let mut parts = Vec::new();
+    for _ in 0..rng.below(4) {
+        let part = match rng.below(6) {
+            0 => 0,
+            1 => rest.min(1),
+            _ => rng.number() % (rest.min(whole) + 1),
+        };
+        parts.push(part);
+        rest -= part;
+    }
+    parts.push(rest);
+    // Then these may pass 2^64, and there are turns after the end.
+    if limit >= whole {
+        parts.extend((0..rng.below(3)).map(|_| rng.pick(&[0, 1, u64::MAX])));
+    }
+    parts
 }
 
 /// Hex, with long runs of zeros told as such.

@@ -1,11 +1,12 @@
-//! "A run of appends", word for word, on the library under test alone.
+//! "A run of appends", word for word, on the library under test alone. Each append is made as one call
+//! and as a beginning with turns, "one append with their summed limit".
 
 use crate::ask::Ask;
 use crate::check::hex;
 use crate::images::{
     frames_to_ask, get64, holds_nan, lawful_rows, size, Row, GREATEST_FRAME, V1_0,
 };
-use crate::library::Library;
+use crate::library::{Library, State, REFUSED};
 use crate::moving::{self, Moving};
 use std::collections::BTreeMap;
 
@@ -65,8 +66,8 @@ pub struct Run<'l> {
 }
 
 impl<'l> Run<'l> {
-    /// Makes the calls in turn from an image that opens, and looks at each moment. The error says
-    /// which of the paper's words failed, and on what.
+    /// Makes the calls, one after the other, from an image that opens, and looks at each moment. The
+    /// error says which of the paper's words failed, and on what.
     pub fn make(library: &'l dyn Library, start: &[u8], calls: &[Call]) -> Result<u64, String> {
         let counts = library.counts(start);
         let [count, names, _] = counts.map_err(|n| format!("the start is refused with {n}"))?;
@@ -117,7 +118,10 @@ impl<'l> Run<'l> {
             (1.., _) if *image != before || out != [0; 3] => {
                 return Err(format!("a refusal wrote, or answers {out:?}"));
             }
-            (1.., _) if refusals.contains(&number) => return self.same(image),
+            (1.., _) if refusals.contains(&number) => {
+                self.refused_begin(&before, call, number)?;
+                return self.same(image);
+            }
             _ => return Err(format!("{number} {out:?}; if refused, one of {refusals:?}")),
         };
         let [done, whole, _] = out;
@@ -125,15 +129,23 @@ impl<'l> Run<'l> {
             return Err(format!("done {done} of {whole}"));
         }
         let copied = self.copied(&before, call, out)?;
+        let (mut state, begun) = self.library.begun(&before, &call.sheet);
+        if begun != Ok([whole, copied]) {
+            return Err(format!("begin: {begun:?}, at {} {out:?}", call.limit));
+        }
         let mut last = before.clone();
         for store in 1..=done {
-            let (next, stores) = self.library.after(&before, &call.sheet, store);
-            if stores != Ok([store, whole, copied]) {
-                return Err(format!("limit {store}: {stores:?}, at {} {out:?}", call.limit));
-            }
+            let next = self.next(&mut state, &last, call)?;
             one_word(&last, &next).map_err(|what| format!("store {store}: {what}"))?;
             // Of a long append the ends and every seventh moment.
             if store < 64 || store + 64 > whole || store % 7 == 0 {
+                let (stopped, stores) = self.library.after(&before, &call.sheet, store);
+                if stores != Ok([store, whole, copied]) {
+                    return Err(format!("limit {store}: {stores:?}, at {} {out:?}", call.limit));
+                }
+                if stopped != next {
+                    return Err(format!("limit {store} leaves other bytes than its turns"));
+                }
                 if store == whole {
                     let frame = self.requested(&next, rows)?;
                     self.frames.insert(self.count, frame);
@@ -145,7 +157,7 @@ impl<'l> Run<'l> {
             last = next;
         }
         if last != *image {
-            return Err("a stop leaves other bytes than the limit".into());
+            return Err("its turns leave other bytes than the limit".into());
         }
         if done == whole {
             self.moving.add(&before, image, copied)?;
@@ -159,6 +171,30 @@ impl<'l> Run<'l> {
                 Ok(())
             }
             blocks => Err(format!("index and names moved off 64: {blocks:?}")),
+        }
+    }
+
+    /// "A refused beginning is a refused append": no turn of it stores.
+    fn refused_begin(&self, before: &[u8], call: &Call, number: u64) -> Result<(), String> {
+        let (mut state, begun) = self.library.begun(before, &call.sheet);
+        let mut image = before.to_vec();
+        let turn = self.library.go_on(&mut state, &mut image, &call.sheet, call.limit);
+        if (begun, turn) != (Err(number), Err(32)) || image != before || state != REFUSED {
+            return Err(format!("refused with {number}, but begin {begun:?}, turn {turn:?}"));
+        }
+        Ok(())
+    }
+
+    /// The image after one store more, by a turn of its own; one with limit 0 changes nothing.
+    fn next(&self, state: &mut State, last: &[u8], call: &Call) -> Result<Vec<u8>, String> {
+        let mut image = last.to_vec();
+        let none = self.library.go_on(state, &mut image, &call.sheet, 0);
+        if none != Ok(0) || image != last {
+            return Err(format!("a turn with limit 0: {none:?}"));
+        }
+        match self.library.go_on(state, &mut image, &call.sheet, 1) {
+            Ok(1) => Ok(image),
+            turn => Err(format!("a turn with limit 1: {turn:?}")),
         }
     }
 

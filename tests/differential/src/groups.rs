@@ -8,9 +8,10 @@ use crate::images::{
     blank, frames_to_ask, get64, put32, put64, put_names, put_slots, segments_for, sheet, version,
     Row, Slot, GROWING, MAGIC, SEGMENT, V1_0, V2_1, VERSIONS,
 };
-use crate::library::{Create, Library, Reference};
+use crate::library::{Create, Library, Reference, STATE_WORDS};
 use crate::moving::{self, Moving};
 use crate::random::Rng;
+use crate::turns;
 
 pub struct Group {
     pub name: &'static str,
@@ -52,6 +53,9 @@ pub const GROUPS: &[Group] = &[
     group("appends to older images", 2000, older),
     group("a run of appends to older images, word for word", 500, older_runs),
     group("whole appends that move the index", 4000, moves),
+    group("appends in turns", 20_000, turns::under_premise),
+    group("turns between which others write", 20_000, turns::without_premise),
+    group("turns on torn and swapped states", 20_000, turns::torn_states),
 ];
 
 /// Every call once, on whatever the image is.
@@ -459,7 +463,8 @@ fn many_rows(check: &mut Check, rng: &mut Rng) {
     }
 }
 
-/// Appends in turn to one image, whole and stopped, until it is full: blocks move again and again.
+/// Appends one after the other to one image, whole and stopped, until it is full: blocks move again
+/// and again.
 fn night(check: &mut Check, rng: &mut Rng) {
     let room = rng.between(20_000, 60_000);
     check.load(&Vec::from_iter(generate::growing(rng).into_iter().chain(rng.bytes(room))));
@@ -599,7 +604,15 @@ fn longest(check: &mut Check, _: &mut Rng) {
             check.fail(|| "create on a long slice: other bytes".into());
         }
         let sheet = sheet(&[Row::bytes(b"c", &[9; 505])]);
-        for (version, limit) in [(V1_0, 3), (V2_1, 3), (V2_1, u64::MAX), (V2_1, u64::MAX)] {
+        // As one call and in turns.
+        for (version, limit, joined) in [
+            (V1_0, 3, true),
+            (V1_0, 3, false),
+            (V2_1, 3, true),
+            (V2_1, 3, false),
+            (V2_1, u64::MAX, true),
+            (V2_1, u64::MAX, false),
+        ] {
             for image in [&mut *theirs, &mut *ours].into_iter().filter(|_| limit == 3) {
                 // Both blocks near the end, a chunk shortly before it, one from far below.
                 crate::images::header(image, index as u64, 4, names as u64, 2);
@@ -630,10 +643,25 @@ fn longest(check: &mut Check, _: &mut Rng) {
             let a = library.probes(theirs, 0, b"b", &mut x);
             let b = Reference.probes(ours, 0, b"b", &mut y);
             both(check, "probes", (a, &x), (b, &y));
-            let (mut x, mut y) = ([5; 3], [5; 3]);
-            let a = library.append(theirs, &sheet, limit, &mut x);
-            let b = Reference.append(ours, &sheet, limit, &mut y);
-            both(check, "append", (a, &x), (b, &y));
+            if joined {
+                let (mut x, mut y) = ([5; 3], [5; 3]);
+                let a = library.append(theirs, &sheet, limit, &mut x);
+                let b = Reference.append(ours, &sheet, limit, &mut y);
+                both(check, "append", (a, &x), (b, &y));
+            } else {
+                let mut states = [[5; STATE_WORDS]; 2];
+                let [their_state, our_state] = &mut states;
+                let (mut x, mut y) = ([5; 2], [5; 2]);
+                let a = library.begin(theirs, &sheet, their_state, &mut x);
+                let b = Reference.begin(ours, &sheet, our_state, &mut y);
+                both(check, "begin", (a, &x), (b, &y));
+                for limit in [1, limit - 1, 1] {
+                    let (mut x, mut y) = ([5], [5]);
+                    let a = library.turn(their_state, theirs, &sheet, limit, &mut x);
+                    let b = Reference.turn(our_state, ours, &sheet, limit, &mut y);
+                    both(check, "turn", (a, &x), (b, &y));
+                }
+            }
             if theirs[..HEAD] != ours[..HEAD] || theirs[index - 64..] != ours[index - 64..] {
                 check.fail(|| "append on a long slice: other bytes".into());
             }
@@ -735,8 +763,8 @@ fn run_from(check: &mut Check, rng: &mut Rng, (mut image, known): (Vec<u8>, Vec<
     }
 }
 
-/// Whole appends in turn, so that the index moves again and again, and refused ones among them: what
-/// they copy, added up.
+/// Whole appends one after the other, so that the index moves again and again, and refused ones among
+/// them: what they copy, added up.
 fn moves(check: &mut Check, rng: &mut Rng) {
     let (mut image, known) = match rng.below(5) {
         0 | 1 => (generate::growing(rng), Vec::new()),

@@ -70,6 +70,15 @@ impl Lent {
         self.bytes_mut()
     }
 
+    /// Lends a copy of `words`: in bytes a multiple of 8, they lie on one too.
+    pub fn lend_words<const K: usize>(&mut self, words: &[u64; K], flush: Flush) -> &mut [u64; K] {
+        let bytes = words.map(u64::to_ne_bytes);
+        let lent = self.lend(bytes.as_flattened(), flush);
+        assert!(lent.as_ptr().cast::<u64>().is_aligned());
+        // So many bytes, and any of them are words.
+        unsafe { &mut *lent.as_mut_ptr().cast() }
+    }
+
     fn margin_start(&self) -> usize {
         if self.start == PAGE {
             self.start + self.length

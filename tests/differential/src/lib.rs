@@ -1,10 +1,11 @@
 //! The differential tests of libdialmoth.a.
 //!
 //! [`reference`] is document 01 in plain Rust; [`library`] puts it and the archive behind one
-//! trait. Against the paper itself: [`cases`], [`start_cases`], [`move_cases`] and [`old_cases`],
-//! worked out by hand, [`files`] of the real GSD library and of 1.0, [`demand3`], the words of "A
-//! run of appends", and [`moving`], those of what moving the index costs. Against each other:
-//! [`check`] makes each call on both, and [`groups`] feed it what [`generate`] and [`images`] make.
+//! trait. Against the paper itself: [`cases`], [`start_cases`], [`move_cases`], [`turn_cases`] and
+//! [`old_cases`], worked out by hand, [`files`] of the real GSD library and of 1.0, [`demand3`], the
+//! words of "A run of appends", [`moving`], those of what moving the index costs, and [`turns`], those
+//! of an append in turns. Against each other: [`check`] makes each call on both, and [`groups`] feed it
+//! what [`generate`] and [`images`] make.
 
 pub mod ask;
 pub mod cases;
@@ -24,5 +25,7 @@ pub mod random;
 pub mod reference;
 pub mod start_cases;
 pub mod suite;
+pub mod turn_cases;
+pub mod turns;
 #[cfg(linked)]
 pub mod wrapper;

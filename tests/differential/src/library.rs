@@ -2,8 +2,17 @@
 
 use crate::reference::{self, Answer, Element, Entry, Probes};
 
+pub use crate::reference::STATE_WORDS;
+
+/// The state of an append in turns. Each library has its own form of it.
+pub type State = [u64; STATE_WORDS];
+
+/// A refused beginning's state.
+pub const REFUSED: State = [0; STATE_WORDS];
+
 /// The result is the number of the refusal, 0 for an answer. A refusal leaves `out` as it was, but
-/// for those of probes and append, which are set at every call: a refused append's to three zeros.
+/// for those of probes, append, begin and turn, which are set at every call: to zeros by a refusal of
+/// the last three.
 pub trait Library: Sync {
     /// `out`: frames, names, entries.
     fn open(&self, image: &[u8], out: &mut [u64; 3]) -> u64;
@@ -22,6 +31,17 @@ pub trait Library: Sync {
     fn create(&self, image: &mut [u8], request: Create) -> u64;
     /// `out`: done, whole, and the listed entries that the whole append copies as it moves the index.
     fn append(&self, image: &mut [u8], sheet: &[u8], limit: u64, out: &mut [u64; 3]) -> u64;
+    /// Sets the state at every call: to [`REFUSED`] by a refusal. `out`: whole, copied.
+    fn begin(&self, image: &[u8], sheet: &[u8], state: &mut State, out: &mut [u64; 2]) -> u64;
+    /// `out`: done by this turn.
+    fn turn(
+        &self,
+        state: &mut State,
+        image: &mut [u8],
+        sheet: &[u8],
+        limit: u64,
+        out: &mut [u64; 1],
+    ) -> u64;
 }
 
 /// What create is asked for.
@@ -104,6 +124,30 @@ impl Library for Reference {
         *out = [0; 3];
         give(reference::append(image, sheet, limit).map(|s| [s.done, s.whole, s.copied]), out)
     }
+
+    fn begin(&self, image: &[u8], sheet: &[u8], state: &mut State, out: &mut [u64; 2]) -> u64 {
+        let begun = reference::begin(image, sheet);
+        *state = begun.as_ref().map_or(REFUSED, |begun| begun.state.words());
+        *out = [0; 2];
+        give(begun.map(|begun| [begun.whole, begun.copied]), out)
+    }
+
+    fn turn(
+        &self,
+        state: &mut State,
+        image: &mut [u8],
+        sheet: &[u8],
+        limit: u64,
+        out: &mut [u64; 1],
+    ) -> u64 {
+        let made = reference::State::read(state).ok_or(32).and_then(|mut read| {
+            let made = reference::turn(&mut read, image, sheet, limit)?;
+            *state = read.words();
+            Ok([made])
+        });
+        *out = [0];
+        give(made, out)
+    }
 }
 
 /// libdialmoth.a.
@@ -112,7 +156,7 @@ pub struct Linked;
 
 #[cfg(linked)]
 mod linked {
-    use super::{Create, Library, Linked};
+    use super::{Create, Library, Linked, State};
     use dialmoth::ffi;
 
     // Pointers and lengths are those of live slices.
@@ -177,6 +221,24 @@ mod linked {
         fn append(&self, image: &mut [u8], sheet: &[u8], limit: u64, out: &mut [u64; 3]) -> u64 {
             let (image, length) = (image.as_mut_ptr(), image.len());
             unsafe { ffi::dialmoth_append(image, length, sheet.as_ptr(), sheet.len(), limit, out) }
+        }
+
+        fn begin(&self, image: &[u8], sheet: &[u8], state: &mut State, out: &mut [u64; 2]) -> u64 {
+            let (image, length) = (image.as_ptr(), image.len());
+            unsafe { ffi::dialmoth_begin(image, length, sheet.as_ptr(), sheet.len(), state, out) }
+        }
+
+        fn turn(
+            &self,
+            state: &mut State,
+            image: &mut [u8],
+            sheet: &[u8],
+            limit: u64,
+            out: &mut [u64; 1],
+        ) -> u64 {
+            let (image, length) = (image.as_mut_ptr(), image.len());
+            let (sheet, sheet_length) = (sheet.as_ptr(), sheet.len());
+            unsafe { ffi::dialmoth_turn(state, image, length, sheet, sheet_length, limit, out) }
         }
     }
 }

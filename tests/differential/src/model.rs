@@ -4,9 +4,12 @@
 //! It stands in for the library where there is no archive, and it can be told to make a hurried
 //! builder's [`Fault`], so that the tests can be tested: each must be noticed.
 
-use crate::library::{Create, Library};
-use std::collections::BTreeSet;
+use crate::images::listed;
+use crate::library::{Create, Library, State, REFUSED};
+use std::cell::RefCell;
+use std::collections::{BTreeSet, VecDeque};
 use std::ops::Range;
+use std::rc::Rc;
 
 macro_rules! faults {
     ($($fault:ident,)*) => {
@@ -262,6 +265,42 @@ faults! {
     NoRoomStillCopies,
     IndexGrowsByNeed,
     IndexMovesAlways,
+    RefusedBeginKeepsState,
+    RefusedBeginKeepsOut,
+    BeginCopiesNothing,
+    RefusedStateAccepted,
+    StateNotTested,
+    TurnRestarts,
+    TurnLosesRest,
+    TurnMakesOneMore,
+    TurnAnswersSum,
+    SumOfLimitsWraps,
+    TurnOpens,
+    TurnTestsSheet,
+    TurnTestsEntries,
+    Word8NotCompared,
+    Word16NotCompared,
+    Word24NotCompared,
+    Word32NotCompared,
+    HeaderIn32Bits,
+    HeaderOfTheBeginning,
+    HeaderMovesByBlocks,
+    MagicCompared,
+    SchemaVersionCompared,
+    VersionCompared,
+    ImageLengthNotCompared,
+    SheetLengthNotCompared,
+    ImageCompared,
+    SheetCompared,
+    ThirtyTwoAfterEnd,
+    ThirtyTwoNotAfterEnd,
+    ThirtyTwoNotAtLimitZero,
+    ThirtyTwoAfterStores,
+    RefusedTurnEndsState,
+    RefusedTurnKeepsOut,
+    TableReadAgain,
+    NamesReadAgain,
+    EntriesReadAgain,
 }
 
 pub struct Model {
@@ -436,13 +475,71 @@ struct Row<'s> {
 /// A place and the eight bytes stored there.
 type Store = (u128, [u8; 8]);
 
-/// The stores of an append, and which of them are step 5's.
+/// The stores of an append, and which of them are which step's.
 struct Stores {
     all: Vec<Store>,
+    /// Row by row.
+    step_2: Vec<Range<usize>>,
+    step_4: Range<usize>,
     /// Empty without that step.
     step_5: Range<usize>,
     /// What a hurried builder takes for the entries that are copied.
     instead: Option<u64>,
+}
+
+/// A beginning that was not refused: its slice, its sheet and its store list.
+struct Begun {
+    image: Vec<u8>,
+    sheet: Vec<u8>,
+    stores: Stores,
+}
+
+impl Begun {
+    fn bytes(&self) -> usize {
+        self.image.len() + self.sheet.len() + size_of::<Store>() * self.stores.all.len()
+    }
+
+    /// What its own stores have left so far.
+    fn after(&self, done: usize) -> Vec<u8> {
+        let mut image = self.image.clone();
+        for &(at, word) in &self.stores.all[..done] {
+            image[at as usize..][..8].copy_from_slice(&word);
+        }
+        image
+    }
+}
+
+/// A state has no room for a store list, so it has the number of its beginning, and the last ones of
+/// each thread are kept here, as many as have so many bytes. No test goes back further.
+const KEPT: usize = 1 << 25;
+
+#[derive(Default)]
+struct Beginnings {
+    /// All so far: the last one has this number, the first had 1.
+    count: u64,
+    last: VecDeque<Rc<Begun>>,
+    bytes: usize,
+}
+
+impl Beginnings {
+    fn keep(&mut self, begun: Begun) -> u64 {
+        self.count += 1;
+        self.bytes += begun.bytes();
+        self.last.push_back(Rc::new(begun));
+        while self.bytes > KEPT && self.last.len() > 1 {
+            self.bytes -= self.last.pop_front().map_or(0, |begun| begun.bytes());
+        }
+        self.count
+    }
+
+    fn get(&self, number: u64) -> Option<Rc<Begun>> {
+        let behind = self.count.checked_sub(number)? as usize;
+        self.last.iter().rev().nth(behind).cloned()
+    }
+}
+
+thread_local! {
+    static BEGINNINGS: RefCell<Beginnings> = RefCell::default();
 }
 
 /// "The listed entries step 5 copies": the header's words, stored last, say where the new block is,
@@ -1472,8 +1569,10 @@ impl Model {
 
         // 2, "each row padded with zeros to 8".
         let mut gaps = gaps.into_iter();
+        let mut step_2 = Vec::new();
         for (row, location) in rows.iter().zip(&locations) {
             stores.extend(gaps.next().unwrap());
+            let before = stores.len();
             let unit = if self.has(Fault::RowsPaddedTo64) { 64 } else { 8 };
             for at in (0..row.data.len().next_multiple_of(unit)).step_by(8) {
                 let mut word = word_at(row.data, at);
@@ -1484,6 +1583,7 @@ impl Model {
                 }
                 stores.push((location + at as u128, word));
             }
+            step_2.push(before..stores.len());
         }
 
         // 3
@@ -1509,6 +1609,7 @@ impl Model {
         }
 
         // 4
+        let before_4 = stores.len();
         let mut list = old_list.to_vec();
         let mut highest_stored = usize::MAX;
         for name in &new_names {
@@ -1530,6 +1631,8 @@ impl Model {
                 if name.len() < 8 && start % 8 + name.len() < 8 { start / 8 } else { usize::MAX };
             list.push(0);
         }
+
+        let step_4 = before_4..stores.len();
 
         // 5
         let before_5 = stores.len();
@@ -1572,7 +1675,7 @@ impl Model {
             }
         }
         let instead = self.copied_instead(image, &view, rows.len(), new_name_block, new_index);
-        Ok(Stores { all: stores, step_5, instead })
+        Ok(Stores { all: stores, step_2, step_4, step_5, instead })
     }
 
     /// What is counted in place of [`copied`], given the blocks, start and count, to which the append
@@ -1613,7 +1716,7 @@ impl Model {
 
     /// "The listed entries step 5 copies in the whole append, at any limit."
     fn copied(&self, stores: &Stores, limit: u64) -> u64 {
-        let Stores { all, step_5, instead } = stores;
+        let Stores { all, step_5, instead, .. } = stores;
         let made = limit.min(all.len() as u64) as usize;
         let count = instead.unwrap_or(copied(&all[step_5.clone()]) as u64);
         match self.fault {
@@ -1623,6 +1726,102 @@ impl Model {
             Some(Fault::CopiedByTheStop) => count.min(made.saturating_sub(step_5.start) as u64 / 4),
             _ => count,
         }
+    }
+
+    /// "It refuses, with 32, exactly if the state is a refused beginning's, or the slice's or sheet's
+    /// length or header words 8 to 32 differ from what it expects." That is what its own stores have
+    /// left, so many of them.
+    fn expects(&self, begun: &Begun, done: usize, image: &[u8], sheet: &[u8], limit: u64) -> bool {
+        let ended = done == begun.stores.all.len();
+        match self.fault {
+            Some(Fault::ThirtyTwoAfterEnd) if ended => return false,
+            Some(Fault::ThirtyTwoNotAfterEnd) if ended => return true,
+            Some(Fault::ThirtyTwoNotAtLimitZero) if limit == 0 => return true,
+            _ => {}
+        }
+        let long = image.len() != begun.image.len() && !self.has(Fault::ImageLengthNotCompared);
+        if long || sheet.len() != begun.sheet.len() && !self.has(Fault::SheetLengthNotCompared) {
+            return false;
+        }
+        let expected = begun.after(match self.fault {
+            Some(Fault::HeaderOfTheBeginning) => 0,
+            // The second of a block's two words is stored behind the first.
+            Some(Fault::HeaderMovesByBlocks)
+                if matches!(begun.stores.all.get(done), Some((16 | 32, _))) =>
+            {
+                done - 1
+            }
+            _ => done,
+        });
+        let same = |at: usize, width: usize| image[at..at + width] == expected[at..at + width];
+        let compared = |at: usize| match (self.fault, at) {
+            (Some(Fault::Word8NotCompared), 8)
+            | (Some(Fault::Word16NotCompared), 16)
+            | (Some(Fault::Word24NotCompared), 24)
+            | (Some(Fault::Word32NotCompared), 32) => true,
+            (Some(Fault::HeaderIn32Bits), _) => same(at, 4),
+            _ => same(at, 8),
+        };
+        let others = match self.fault {
+            Some(Fault::MagicCompared) => same(0, 8),
+            Some(Fault::SchemaVersionCompared) => same(40, 4),
+            Some(Fault::VersionCompared) => same(44, 4),
+            Some(Fault::ImageCompared) => *image == expected[..],
+            Some(Fault::SheetCompared) => *sheet == begun.sheet[..],
+            _ => true,
+        };
+        [8, 16, 24, 32].into_iter().all(compared) && others
+    }
+
+    /// What a hurried builder's turn answers, though it "doesn't open the image".
+    fn tested_again(&self, image: &[u8], sheet: &[u8]) -> u64 {
+        let view = self.view(image);
+        let number = match self.fault {
+            Some(Fault::TurnOpens) => view.err(),
+            Some(Fault::TurnTestsEntries) => view.err().filter(|number| *number >= 12),
+            Some(Fault::TurnTestsSheet) => {
+                view.and_then(|view| self.rows(sheet, view.version).map(drop)).err()
+            }
+            _ => None,
+        };
+        number.unwrap_or(0)
+    }
+
+    /// Where the store of this number goes, whatever the slice and the sheet hold by then.
+    fn place(&self, begun: &Begun, number: usize, image: &[u8], sheet: &[u8]) -> usize {
+        let Stores { all, step_2, step_4, step_5, .. } = &begun.stores;
+        let list_end = |image: &[u8]| {
+            let [at, count] = [24, 32].map(|at| self::number(image, at, 8) as usize);
+            self.running_names(image, at, at + 64 * count).map_or(0, |(_, end)| end)
+        };
+        let [then, now]: [usize; 2] = match self.fault {
+            Some(Fault::TableReadAgain) => {
+                let row = step_2.iter().position(|row| row.contains(&number)).unwrap_or(0);
+                [&begun.sheet[..], sheet].map(|sheet| {
+                    let length = |row: usize| {
+                        let at = 4 + 16 * row;
+                        let [n, m] =
+                            [(at, 8), (at + 8, 4)].map(|(at, w)| self::number(sheet, at, w));
+                        round_up(n * m * width(sheet[at + 12]), 64)
+                    };
+                    (0..row).map(length).sum::<u128>() as usize
+                })
+            }
+            Some(Fault::NamesReadAgain) if step_4.contains(&number) => {
+                [&begun.after(number)[..], image].map(list_end)
+            }
+            Some(Fault::EntriesReadAgain) if step_5.end <= number => {
+                [&begun.after(number)[..], image].map(|image| 32 * listed(image) as usize)
+            }
+            _ => [0, 0],
+        };
+        (all[number].0 as usize).wrapping_add(now).wrapping_sub(then)
+    }
+
+    /// The stores of an append in their order, each a place and eight bytes.
+    pub fn store_list(&self, image: &[u8], sheet: &[u8]) -> Verdict<Vec<(usize, [u8; 8])>> {
+        let stores = self.stores(image, sheet)?;
+        Ok(stores.all.into_iter().map(|(at, word)| (at as usize, word)).collect())
     }
 
     /// "Each with its exact bits."
@@ -1846,6 +2045,92 @@ impl Library for Model {
         }
         if self.has(Fault::DoneCountsChanges) {
             out[0] = changed;
+        }
+        0
+    }
+
+    fn begin(&self, image: &[u8], sheet: &[u8], state: &mut State, out: &mut [u64; 2]) -> u64 {
+        let stores = match self.stores(image, sheet) {
+            Ok(stores) => stores,
+            Err(number) => {
+                if !self.has(Fault::RefusedBeginKeepsState) {
+                    *state = REFUSED;
+                }
+                if !self.has(Fault::RefusedBeginKeepsOut) {
+                    *out = [0; 2];
+                }
+                return number;
+            }
+        };
+        // "Gives back a state and the whole count with no store made."
+        *out = [stores.all.len() as u64, self.copied(&stores, u64::MAX)];
+        if self.has(Fault::BeginCopiesNothing) {
+            out[1] = 0;
+        }
+        *state = REFUSED;
+        let begun = Begun { image: image.to_vec(), sheet: sheet.to_vec(), stores };
+        state[0] = BEGINNINGS.with_borrow_mut(|beginnings| beginnings.keep(begun));
+        0
+    }
+
+    fn turn(
+        &self,
+        state: &mut State,
+        image: &mut [u8],
+        sheet: &[u8],
+        limit: u64,
+        out: &mut [u64; 1],
+    ) -> u64 {
+        let [beginning, done] = [state[0], state[1]];
+        let before = *out;
+        *out = [0];
+        let kept = match BEGINNINGS.with_borrow(|beginnings| beginnings.get(beginning)) {
+            None if self.has(Fault::RefusedStateAccepted) && *state == REFUSED => return 0,
+            // No turn goes beyond the list.
+            Some(begun) if done > begun.stores.all.len() as u64 => {
+                assert!(!self.has(Fault::StateNotTested), "stores from {done} on");
+                None
+            }
+            kept => kept.map(|begun| (begun, done as usize)),
+        };
+        let expected = kept.filter(|(begun, done)| self.expects(begun, *done, image, sheet, limit));
+        let Some((begun, done)) = expected else {
+            if self.has(Fault::ThirtyTwoAfterStores) && limit > 0 && image.len() >= 264 {
+                image[256..264].fill(0);
+            }
+            if self.has(Fault::RefusedTurnEndsState) {
+                *state = REFUSED;
+            }
+            if self.has(Fault::RefusedTurnKeepsOut) {
+                *out = before;
+            }
+            return 32;
+        };
+        match self.tested_again(image, sheet) {
+            0 => {}
+            number => return number,
+        }
+        let whole = begun.stores.all.len();
+        let from = if self.has(Fault::TurnRestarts) { 0 } else { done };
+        let until = match self.fault {
+            Some(Fault::SumOfLimitsWraps) => u128::from((done as u64).wrapping_add(limit)),
+            Some(Fault::TurnMakesOneMore) if limit > 0 => from as u128 + u128::from(limit) + 1,
+            _ => from as u128 + u128::from(limit),
+        };
+        // "Does the next stores."
+        for store in from..until.min(whole as u128) as usize {
+            let at = self.place(&begun, store, image, sheet);
+            // Here a builder who errs strays.
+            image[at..at + 8].copy_from_slice(&begun.stores.all[store].1);
+            out[0] += 1;
+        }
+        state[1] = match self.fault {
+            Some(Fault::TurnRestarts) => 0,
+            Some(Fault::TurnLosesRest) if limit > 0 => whole as u64,
+            _ => done as u64 + out[0],
+        };
+        if self.has(Fault::TurnAnswersSum) {
+            out[0] += done as u64;
         }
         0
     }

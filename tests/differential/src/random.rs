@@ -64,6 +64,10 @@ impl Rng {
         of[self.below(of.len())]
     }
 
+    pub fn pick_ref<'a, T>(&mut self, of: &'a [T]) -> &'a T {
+        &of[self.below(of.len())]
+    }
+
     pub fn shuffle<T>(&mut self, items: &mut [T]) {
         for last in (1..items.len()).rev() {
             items.swap(last, self.below(last + 1));

@@ -1,11 +1,12 @@
-//! Document 01 in plain Rust, with what document 02 has changed of it (W-201 to W-206, W-211
-//! and W-214), written from the papers alone.
+//! Document 01 in plain Rust, with what document 02 has changed of it (W-201 to W-206, W-208,
+//! W-211 and W-214), written from the papers alone.
 //!
 //! It is the independent second opinion of the differential tests and the baseline of the
 //! benchmark: a refusal is `Err` with its number, and nothing else is shared with the library.
 
 use std::collections::HashSet;
 use std::ffi::CStr;
+use std::ops::Range;
 
 const HEADER: u64 = 256;
 const LONGEST_IMAGE: usize = 1 << 30;
@@ -21,6 +22,9 @@ const MOST_ROWS: usize = 64;
 const MOST_UNITS: u64 = 65_536;
 /// No entry has a frame above.
 const GREATEST_FRAME: u64 = 4_294_967_294;
+
+/// Words of the state of an append in turns.
+pub const STATE_WORDS: usize = 406;
 
 pub type Answer<T> = Result<T, u64>;
 
@@ -56,6 +60,15 @@ pub enum Element {
 pub struct Probes {
     pub count: u64,
     pub answer: Answer<()>,
+}
+
+/// What a begun append takes as a whole, with no store made.
+#[derive(Clone, Debug)]
+pub struct Begun {
+    pub state: State,
+    pub whole: u64,
+    /// Listed entries that the whole append copies where it moves the index.
+    pub copied: u64,
 }
 
 #[derive(Clone, Copy, Debug, PartialEq, Eq)]
@@ -145,7 +158,7 @@ impl Entry {
 }
 
 /// A block of the image: `count` slots or segments from `start`, within the slice.
-#[derive(Clone, Copy)]
+#[derive(Clone, Copy, Debug)]
 struct Block {
     start: usize,
     end: usize,
@@ -153,14 +166,17 @@ struct Block {
 }
 
 impl Block {
-    fn read(image: &[u8], field: usize, unit: usize) -> Option<Block> {
-        let (start, count) = (u64_at(image, field), u64_at(image, field + 8));
+    fn new(start: u64, count: u64, unit: usize, length: usize) -> Option<Block> {
         let end = count.checked_mul(unit as u64)?.checked_add(start)?;
-        (start >= HEADER && end <= image.len() as u64).then_some(Block {
+        (start >= HEADER && end <= length as u64).then_some(Block {
             start: start as usize,
             end: end as usize,
             count: count as usize,
         })
+    }
+
+    fn read(image: &[u8], field: usize, unit: usize) -> Option<Block> {
+        Block::new(u64_at(image, field), u64_at(image, field + 8), unit, image.len())
     }
 
     /// Whether this block and `start..end` share a byte, where both have one at all.
@@ -169,7 +185,8 @@ impl Block {
     }
 }
 
-/// What 15 asks of the order of entries, each given in turn: whether it may stand behind the others.
+/// What 15 asks of the order of entries, each given after the one before it: whether it may stand
+/// behind the others.
 trait Order {
     fn admits(&mut self, entry: Entry) -> bool;
 }
@@ -554,8 +571,6 @@ pub fn create(
 
 /// A row of an append sheet.
 struct Row<'s> {
-    n: u64,
-    m: u32,
     kind: u8,
     name: &'s [u8],
     data: &'s [u8],
@@ -597,7 +612,7 @@ fn rows(sheet: &[u8], version: Version) -> Answer<Vec<Row<'_>>> {
         let (name, rest) = bodies.split_at_checked(row[13].into()).ok_or(25_u64)?;
         let length = usize::try_from(length).map_err(|_| 25_u64)?;
         let (data, rest) = rest.split_at_checked(length).ok_or(25_u64)?;
-        rows.push(Row { n, m, kind, name, data });
+        rows.push(Row { kind, name, data });
         bodies = rest;
     }
     if !bodies.is_empty() {
@@ -616,21 +631,46 @@ fn rows(sheet: &[u8], version: Version) -> Answer<Vec<Row<'_>>> {
     Ok(rows)
 }
 
-/// Where an append stores what. It holds numbers of the image, no part of it.
-struct Plan<'s> {
+/// Where an append stores what: numbers of the image and the sheet, no part of them.
+#[derive(Clone, Debug)]
+struct Plan {
     index: Block,
     entries: usize,
     frame: u64,
     names: Block,
+    listed_names: usize,
     list_end: usize,
-    rows: Vec<Row<'s>>,
-    /// For each row its data's place.
-    locations: Vec<usize>,
-    new_names: Vec<&'s [u8]>,
     moved_names: Option<Block>,
     moved_index: Option<Block>,
-    /// Ids and row numbers, by id.
-    order: Vec<(u16, usize)>,
+    rows: Vec<Placed>,
+    /// Row numbers, by id.
+    order: Vec<usize>,
+}
+
+/// A row: where in the sheet it is, its name and then its data, and where the data are stored.
+#[derive(Clone, Copy, Debug)]
+struct Placed {
+    body: usize,
+    name_length: usize,
+    data_length: usize,
+    location: usize,
+    /// From the number of listed names on the name is new.
+    id: usize,
+}
+
+impl Placed {
+    fn name<'s>(&self, sheet: &'s [u8]) -> &'s [u8] {
+        &sheet[self.body..][..self.name_length]
+    }
+
+    fn data<'s>(&self, sheet: &'s [u8]) -> &'s [u8] {
+        &sheet[self.body + self.name_length..][..self.data_length]
+    }
+}
+
+/// Where the bodies of so many rows start in a sheet.
+fn table_end(rows: usize) -> usize {
+    4 + 16 * rows
 }
 
 /// A block behind `position` that has room for `needed` bytes, in place of one that has not.
@@ -645,8 +685,8 @@ fn moved(old: Block, unit: usize, needed: usize, position: usize) -> Option<Bloc
     })
 }
 
-impl<'s> Plan<'s> {
-    fn new(image: &[u8], sheet: &'s [u8]) -> Answer<Plan<'s>> {
+impl Plan {
+    fn new(image: &[u8], sheet: &[u8]) -> Answer<Plan> {
         let image = Image::open(image)?;
         if image.version == Version::V1_0 {
             return Err(20);
@@ -660,29 +700,34 @@ impl<'s> Plan<'s> {
         }
         let rows = rows(sheet, image.version)?;
 
-        let mut new_names = Vec::new();
-        let mut order = Vec::with_capacity(rows.len());
-        for (number, row) in rows.iter().enumerate() {
-            let id = image.id_of(row.name).unwrap_or_else(|| {
-                new_names.push(row.name);
-                (image.names.len() + new_names.len() - 1) as u16
-            });
-            order.push((id, number));
+        let listed_names = image.names.len();
+        let mut all_names = listed_names;
+        let mut list_end = image.list_end;
+        let mut body = table_end(rows.len());
+        let mut position = image.end.next_multiple_of(ALIGNMENT);
+        let mut placed = Vec::with_capacity(rows.len());
+        for row in &rows {
+            let (name_length, data_length) = (row.name.len(), row.data.len());
+            let id = image.id_of(row.name).map_or_else(
+                || {
+                    list_end += name_length + 1;
+                    all_names += 1;
+                    all_names - 1
+                },
+                usize::from,
+            );
+            let location = position.next_multiple_of(ALIGNMENT);
+            placed.push(Placed { body, name_length, data_length, location, id });
+            position = location + data_length.next_multiple_of(WORD);
+            body += name_length + data_length;
         }
-        if image.names.len() + new_names.len() > MOST_NAMES {
+        if all_names > MOST_NAMES {
             return Err(28);
         }
-        order.sort_unstable();
+        let mut order: Vec<usize> = (0..placed.len()).collect();
+        order.sort_unstable_by_key(|&row| placed[row].id);
 
-        let mut position = image.end.next_multiple_of(ALIGNMENT);
-        let mut locations = Vec::with_capacity(rows.len());
-        for row in &rows {
-            let location = position.next_multiple_of(ALIGNMENT);
-            locations.push(location);
-            position = location + row.data.len().next_multiple_of(WORD);
-        }
-        let text = image.list_end + new_names.iter().map(|name| name.len() + 1).sum::<usize>();
-        let moved_names = moved(names, SEGMENT, text, position);
+        let moved_names = moved(names, SEGMENT, list_end, position);
         position = moved_names.map_or(position, |block| block.end);
         let listed = SLOT * (image.entries.len() + rows.len());
         let moved_index = moved(index, SLOT, listed, position);
@@ -695,12 +740,11 @@ impl<'s> Plan<'s> {
             entries: image.entries.len(),
             frame: image.frames,
             names,
+            listed_names,
             list_end: image.list_end,
-            rows,
-            locations,
-            new_names,
             moved_names,
             moved_index,
+            rows: placed,
             order,
         })
     }
@@ -710,13 +754,22 @@ impl<'s> Plan<'s> {
         self.moved_index.map_or(0, |_| self.entries as u64)
     }
 
-    /// Makes the stores, in the paper's six steps.
-    fn store(&self, to: &mut Writer) {
+    /// How many stores there are, and the header's words 8 to 32 after the first `done`.
+    fn after(&self, sheet: &[u8], done: u64) -> (u64, [u64; 4]) {
+        let (index, names) = (self.index, self.names);
+        let header = [index.start, index.count, names.start, names.count];
+        let mut counter = Writer { image: &mut [], make: done..done, given: 0, header };
+        self.store(sheet, &mut counter);
+        (counter.given, counter.header.map(|number| number as u64))
+    }
+
+    /// Gives the stores to a writer, in the paper's six steps.
+    fn store(&self, sheet: &[u8], to: &mut Writer) {
         to.clear(self.index.start + SLOT * self.entries, self.index.end);
         to.clear(self.names.start + self.list_end, self.names.end);
 
-        for (row, &location) in self.rows.iter().zip(&self.locations) {
-            to.text(location, row.data);
+        for row in &self.rows {
+            to.text(row.location, row.data(sheet));
         }
 
         let mut names = self.names;
@@ -727,9 +780,9 @@ impl<'s> Plan<'s> {
             names = block;
         }
         let mut at = names.start + self.list_end;
-        for name in &self.new_names {
-            to.name(at, name);
-            at += name.len() + 1;
+        for row in self.rows.iter().filter(|row| row.id >= self.listed_names) {
+            to.name(at, row.name(sheet));
+            at += row.name_length + 1;
         }
 
         let mut index = self.index;
@@ -739,15 +792,15 @@ impl<'s> Plan<'s> {
             to.number(16, block.count);
             index = block;
         }
-        for (place, &(id, number)) in self.order.iter().enumerate().rev() {
-            let row = &self.rows[number];
+        for (place, &number) in self.order.iter().enumerate().rev() {
+            let (row, table) = (&self.rows[number], &sheet[table_end(number)..]);
             let entry = Entry {
                 frame: self.frame,
-                n: row.n,
-                location: self.locations[number] as u64,
-                m: row.m,
-                id,
-                kind: row.kind,
+                n: u64_at(table, 0),
+                location: row.location as u64,
+                m: u32_at(table, 8),
+                id: row.id as u16,
+                kind: table[12],
                 flags: 0,
             };
             to.entry(index.start + SLOT * (self.entries + place), entry.to_bytes());
@@ -755,65 +808,80 @@ impl<'s> Plan<'s> {
     }
 }
 
-/// Makes the first `limit` of the stores it is given, and counts them all. Only the slice at the
-/// call's end is seen, so stores upwards are made as one copy of as many words as the limit allows.
+/// Takes the stores of an append in their order and makes some of them. Only the slice at the call's
+/// end is seen, so neighbours are made as one copy of as many words as are to be made.
 struct Writer<'a> {
     image: &'a mut [u8],
-    limit: u64,
-    whole: u64,
+    /// The numbers, from 0, of the stores to make; those before were made by turns before.
+    make: Range<u64>,
+    given: u64,
+    /// The words 8 to 32, with what is stored there up to the end of `make`.
+    header: [usize; 4],
 }
 
 impl Writer<'_> {
-    /// Counts `words` stores and answers how many of them to make.
-    fn take(&mut self, words: usize) -> usize {
-        let left = self.limit.saturating_sub(self.whole);
-        self.whole += words as u64;
-        left.min(words as u64) as usize
+    /// Counts `words` stores and answers which of them to make, if any.
+    fn take(&mut self, words: usize) -> Option<Range<usize>> {
+        let first = self.given;
+        self.given += words as u64;
+        let [start, end] =
+            [self.make.start, self.make.end].map(|at| at.clamp(first, self.given) - first);
+        (start < end).then_some(start as usize..end as usize)
     }
 
     /// Clears from the word that holds `from`, keeping the bytes before it.
     fn clear(&mut self, from: usize, end: usize) {
         let first = from - from % WORD;
-        let until = first + WORD * self.take((end - first) / WORD);
-        if from < until {
-            self.image[from..until].fill(0);
+        if let Some(words) = self.take((end - first) / WORD) {
+            self.image[from.max(first + WORD * words.start)..first + WORD * words.end].fill(0);
         }
     }
 
     /// Stores a text, padded with zeros to whole words.
     fn text(&mut self, at: usize, text: &[u8]) {
-        let bytes = WORD * self.take(text.len().div_ceil(WORD));
-        let (head, pad) = self.image[at..at + bytes].split_at_mut(text.len().min(bytes));
-        head.copy_from_slice(&text[..head.len()]);
-        pad.fill(0);
+        if let Some(words) = self.take(text.len().div_ceil(WORD)) {
+            let (start, end) = (WORD * words.start, WORD * words.end);
+            let text = &text[start..end.min(text.len())];
+            let (head, pad) = self.image[at + start..at + end].split_at_mut(text.len());
+            head.copy_from_slice(text);
+            pad.fill(0);
+        }
     }
 
     /// Stores a whole new block: `length` bytes of the old one, then zeros.
     fn copy(&mut self, from: usize, length: usize, to: Block) {
-        let bytes = WORD * self.take((to.end - to.start) / WORD);
-        let length = length.min(bytes);
-        self.image.copy_within(from..from + length, to.start);
-        self.image[to.start + length..to.start + bytes].fill(0);
+        if let Some(words) = self.take((to.end - to.start) / WORD) {
+            let (start, end) = (WORD * words.start, WORD * words.end);
+            let copied = length.clamp(start, end);
+            if start < copied {
+                self.image.copy_within(from + start..from + copied, to.start + start);
+            }
+            self.image[to.start + copied..to.start + end].fill(0);
+        }
     }
 
     /// Stores a name behind the list, from its highest word to its lowest.
     fn name(&mut self, at: usize, name: &[u8]) {
         let end = at + name.len();
-        let (lowest, highest) = (at - at % WORD, (end - 1) - (end - 1) % WORD);
-        let words = self.take((highest - lowest) / WORD + 1);
-        let from = at.max(highest + WORD - WORD * words);
-        if from < end {
-            self.image[from..end].copy_from_slice(&name[from - at..]);
+        let (lowest, behind) = (at - at % WORD, end.next_multiple_of(WORD));
+        if let Some(words) = self.take((behind - lowest) / WORD) {
+            let from = at.max(behind - WORD * words.end);
+            let until = end.min(behind - WORD * words.start);
+            self.image[from..until].copy_from_slice(&name[from - at..until - at]);
         }
     }
 
     fn word(&mut self, at: usize, word: [u8; WORD]) {
-        if self.take(1) == 1 {
+        if self.take(1).is_some() {
             self.image[at..at + WORD].copy_from_slice(&word);
         }
     }
 
+    /// Stores a word of the header.
     fn number(&mut self, at: usize, number: usize) {
+        if self.given < self.make.end {
+            self.header[at / WORD - 1] = number;
+        }
         self.word(at, (number as u64).to_le_bytes());
     }
 
@@ -826,10 +894,149 @@ impl Writer<'_> {
     }
 }
 
-pub fn append(image: &mut [u8], sheet: &[u8], limit: u64) -> Answer<Stores> {
+/// A begun append: what it expects, and how far its turns have gone.
+#[derive(Clone, Debug)]
+pub struct State {
+    image_length: usize,
+    sheet_length: usize,
+    plan: Plan,
+    done: u64,
+}
+
+/// Words of a state before those of its rows.
+const STATE_HEAD: usize = 16;
+/// Words of a row.
+const STATE_ROW: usize = 6;
+
+const _: () = assert!(STATE_HEAD + STATE_ROW * MOST_ROWS <= STATE_WORDS);
+
+impl State {
+    /// Zeros, which are the state of a refused beginning, stand behind the rows.
+    pub fn words(&self) -> [u64; STATE_WORDS] {
+        let State { image_length, sheet_length, ref plan, done } = *self;
+        let places = |block: Block| [block.start, block.count];
+        let [moved_names, moved_index] =
+            [plan.moved_names, plan.moved_index].map(|block| block.map_or([0; 2], places));
+        let head = [
+            [image_length, sheet_length],
+            places(plan.index),
+            places(plan.names),
+            moved_names,
+            moved_index,
+            [plan.entries, plan.rows.len()],
+            [plan.listed_names, plan.list_end],
+        ];
+        let rows = plan.rows.iter().zip(&plan.order).flat_map(|(row, &number)| {
+            let Placed { body, name_length, data_length, location, id } = *row;
+            [body, name_length, data_length, location, id, number]
+        });
+        let numbers = head.into_iter().flatten().map(|number| number as u64);
+        let numbers = numbers.chain([plan.frame, done]).chain(rows.map(|number| number as u64));
+        let mut words = [0; STATE_WORDS];
+        words.iter_mut().zip(numbers).for_each(|(word, number)| *word = number);
+        words
+    }
+
+    /// Any words: those of no plan that keeps within an image and a sheet of its lengths are none.
+    pub fn read(words: &[u64; STATE_WORDS]) -> Option<State> {
+        let (head, rows) = words.split_first_chunk::<STATE_HEAD>()?;
+        let [numbers @ .., frame, done] = *head;
+        // Nothing that was planned is longer than the longest image, and none of these sums wraps.
+        let most = 2 * LONGEST_IMAGE as u64;
+        let small = |number: u64| (number <= most).then_some(number as usize);
+        let [image_length, sheet_length] = [small(numbers[0])?, small(numbers[1])?];
+        let block = |at: usize, unit: usize| {
+            let block = Block::new(numbers[at], numbers[at + 1], unit, image_length)?;
+            (block.start % WORD == 0).then_some(block)
+        };
+        let moved = |at: usize, unit: usize| match numbers[at + 1] {
+            0 => Some(None),
+            _ => block(at, unit).map(Some),
+        };
+        let (index, names) = (block(2, SLOT)?, block(4, SEGMENT)?);
+        let (moved_names, moved_index) = (moved(6, SEGMENT)?, moved(8, SLOT)?);
+        let [entries, count] = [small(numbers[10])?, small(numbers[11])?];
+        let [listed_names, list_end] = [small(numbers[12])?, small(numbers[13])?];
+        if count == 0 || count > MOST_ROWS || table_end(count) > sheet_length {
+            return None;
+        }
+
+        let (rows, _) = rows.as_chunks::<STATE_ROW>();
+        let mut placed = Vec::with_capacity(count);
+        let mut order = Vec::with_capacity(count);
+        let mut text = list_end;
+        for row in &rows[..count] {
+            let [body, name_length, data_length, location, id, number] = *row;
+            let row = Placed {
+                body: small(body)?,
+                name_length: small(name_length)?,
+                data_length: small(data_length)?,
+                location: small(location)?,
+                id: small(id)?,
+            };
+            let body_end = row.body + row.name_length + row.data_length;
+            let data_end = row.location + row.data_length.next_multiple_of(WORD);
+            let inside = body_end <= sheet_length && data_end <= image_length;
+            if !inside || row.name_length == 0 || number >= count as u64 {
+                return None;
+            }
+            if row.id >= listed_names {
+                text += row.name_length + 1;
+            }
+            placed.push(row);
+            order.push(number as usize);
+        }
+        let (slots, segments) = (moved_index.unwrap_or(index), moved_names.unwrap_or(names));
+        let fits = entries <= index.count
+            && list_end <= SEGMENT * names.count
+            && entries + count <= slots.count
+            && text <= SEGMENT * segments.count;
+        let plan = Plan {
+            index,
+            entries,
+            frame,
+            names,
+            listed_names,
+            list_end,
+            moved_names,
+            moved_index,
+            rows: placed,
+            order,
+        };
+        fits.then_some(State { image_length, sheet_length, plan, done })
+    }
+}
+
+/// Tests all that an append tests, and makes no store.
+pub fn begin(image: &[u8], sheet: &[u8]) -> Answer<Begun> {
     let plan = Plan::new(image, sheet)?;
-    let mut writer = Writer { image, limit, whole: 0 };
-    plan.store(&mut writer);
-    let whole = writer.whole;
-    Ok(Stores { done: limit.min(whole), whole, copied: plan.copied() })
+    let (whole, _) = plan.after(sheet, 0);
+    let copied = plan.copied();
+    let state = State { image_length: image.len(), sheet_length: sheet.len(), plan, done: 0 };
+    Ok(Begun { state, whole, copied })
+}
+
+/// Makes the next stores of a begun append, `limit` at most, and answers how many. It opens nothing:
+/// what it needs to know of the image and the sheet is in the state, but for the values it stores.
+pub fn turn(state: &mut State, image: &mut [u8], sheet: &[u8], limit: u64) -> Answer<u64> {
+    let State { image_length, sheet_length, ref plan, done } = *state;
+    if (image.len(), sheet.len()) != (image_length, sheet_length) {
+        return Err(32);
+    }
+    let (whole, header) = plan.after(sheet, done);
+    if [8, 16, 24, 32].map(|at| u64_at(image, at)) != header {
+        return Err(32);
+    }
+    let made = limit.min(whole.saturating_sub(done));
+    let make = done..done + made;
+    plan.store(sheet, &mut Writer { image, make, given: 0, header: [0; 4] });
+    state.done += made;
+    Ok(made)
+}
+
+/// The two joined.
+pub fn append(image: &mut [u8], sheet: &[u8], limit: u64) -> Answer<Stores> {
+    let Begun { mut state, whole, copied } = begin(image, sheet)?;
+    let done = turn(&mut state, image, sheet, limit)?;
+    Ok(Stores { done, whole, copied })
 }

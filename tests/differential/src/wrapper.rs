@@ -1,6 +1,6 @@
 //! The safe Rust calls of the package dialmoth say what the C functions say.
 
-use crate::ask::Ask;
+use crate::ask::{Answer, Ask};
 use crate::cases::{sheet_a, sheet_b};
 use crate::generate::{self, Layout};
 use crate::images::{
@@ -8,7 +8,7 @@ use crate::images::{
 };
 use crate::library::Linked;
 use crate::random::Rng;
-use dialmoth::{Element, Refusal, Row, Stores, Type};
+use dialmoth::{Begun, Element, Refusal, Row, Stores, Type};
 
 const TYPES: [Type; 11] = [
     Type::U8,
@@ -72,6 +72,7 @@ pub fn hold() {
     nans_are_refused();
     old_files_take_none();
     copies_are_counted();
+    turns_are_refused();
 }
 
 fn appends(rng: &mut Rng, image: &mut [u8], known: &mut Vec<Vec<u8>>) {
@@ -91,11 +92,22 @@ fn appends(rng: &mut Rng, image: &mut [u8], known: &mut Vec<Vec<u8>>) {
         assert_eq!(dialmoth::sheet(&own), sheet);
         let limit = generate::limit(rng);
         let (after, stores) = Linked.after(image, &sheet, limit);
+        assert_eq!(in_turns(image, &sheet, limit), (after.clone(), stores));
         let done = dialmoth::append(image, &sheet, limit).map_err(number);
         assert_eq!(done.map(|s| [s.done, s.whole, s.copied]), stores);
         assert_eq!(*image, after);
         known.extend(rows.into_iter().map(|row| row.name).take(4));
     }
+}
+
+/// The image that two turns leave, with done, whole and copied.
+fn in_turns(image: &[u8], sheet: &[u8], limit: u64) -> (Vec<u8>, Answer<[u64; 3]>) {
+    let mut image = image.to_vec();
+    let stores = dialmoth::begin(&image, sheet).map(|Begun { whole, copied, mut state }| {
+        let mut turn = |limit| dialmoth::turn(&mut state, &mut image, sheet, limit).unwrap();
+        [turn(limit / 3) + turn(limit - limit / 3), whole, copied]
+    });
+    (image, stores.map_err(number))
 }
 
 fn lookups(image: &[u8], known: &[Vec<u8>]) {
@@ -185,5 +197,30 @@ fn copies_are_counted() {
             assert_eq!(stores, Ok(Stores { done, whole, copied }));
         }
         assert!(dialmoth::append(&mut image, &sheet, u64::MAX).is_ok_and(Stores::is_whole));
+    }
+}
+
+fn turns_are_refused() {
+    let mut image = blank(1024, 256, 2, 320, 1);
+    assert!(dialmoth::append(&mut image, &sheet_a(), u64::MAX).is_ok_and(Stores::is_whole));
+    let sheet = sheet_b();
+    assert!(matches!(dialmoth::begin(&image, &sheet[1..]), Err(Refusal::ROW_COUNT)));
+    let Begun { whole, copied, mut state } = dialmoth::begin(&image, &sheet).unwrap();
+    assert_eq!((whole, copied), (43, 1));
+    for stores in 0..=43 {
+        for at in [8, 16, 24, 32] {
+            let mut other = image.clone();
+            other[at] ^= 1;
+            for limit in [0, 1, u64::MAX] {
+                let made = dialmoth::turn(&mut state, &mut other, &sheet, limit);
+                assert_eq!(made, Err(Refusal::NOT_EXPECTED));
+            }
+        }
+        let short = dialmoth::turn(&mut state, &mut image[..1023], &sheet, 1);
+        assert_eq!(short, Err(Refusal::NOT_EXPECTED));
+        let short = dialmoth::turn(&mut state, &mut image, &sheet[..59], 1);
+        assert_eq!(short, Err(Refusal::NOT_EXPECTED));
+        assert_eq!(dialmoth::open(&image).map(|counts| counts.frames), Ok(1 + stores / 43));
+        assert_eq!(dialmoth::turn(&mut state, &mut image, &sheet, 1), Ok(u64::from(stores < 43)));
     }
 }

@@ -217,6 +217,52 @@ fn whole_appends_notice_what_is_not_copied() {
     run_notices("whole appends that move the index", &OF_COPIES);
 }
 
+/// What goes wrong in turns, by a run's own words: its appends are made in them.
+#[test]
+fn a_run_of_appends_in_turns_notices_what_breaks_it() {
+    use Fault::*;
+    let faults = [
+        RefusedBeginKeepsState,
+        RefusedStateAccepted,
+        BeginCopiesNothing,
+        TurnRestarts,
+        TurnLosesRest,
+        TurnMakesOneMore,
+        TurnAnswersSum,
+        HeaderOfTheBeginning,
+        HeaderMovesByBlocks,
+    ];
+    run_notices("a run of appends, word for word", &faults);
+}
+
+/// What others write between turns is seen where it must be, and nowhere else.
+#[test]
+fn turns_between_which_others_write_notice_what_breaks_them() {
+    use Fault::*;
+    let faults = [
+        TurnOpens,
+        TurnTestsSheet,
+        TurnTestsEntries,
+        Word8NotCompared,
+        Word16NotCompared,
+        Word24NotCompared,
+        Word32NotCompared,
+        HeaderIn32Bits,
+        MagicCompared,
+        SchemaVersionCompared,
+        VersionCompared,
+        ImageCompared,
+        SheetCompared,
+        ThirtyTwoAfterEnd,
+        ThirtyTwoNotAfterEnd,
+        ThirtyTwoNotAtLimitZero,
+        ThirtyTwoAfterStores,
+        RefusedTurnEndsState,
+        RefusedTurnKeepsOut,
+    ];
+    run_notices("turns between which others write", &faults);
+}
+
 /// An index that grows otherwise breaks the bounds of what is copied in all, though each append
 /// answers what it copies.
 #[test]

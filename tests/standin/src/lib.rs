@@ -132,3 +132,34 @@ pub unsafe extern "C" fn dialmoth_append(
     let sheet = part(sheet, sheet_length);
     Reference.append(part_mut(image, length), sheet, limit, &mut *out.cast())
 }
+
+/// # Safety
+/// As `dialmoth_open`.
+#[no_mangle]
+pub unsafe extern "C" fn dialmoth_begin(
+    image: *const u8,
+    length: usize,
+    sheet: *const u8,
+    sheet_length: usize,
+    state: *mut u64,
+    out: *mut u64,
+) -> u64 {
+    let (image, sheet) = (part(image, length), part(sheet, sheet_length));
+    Reference.begin(image, sheet, &mut *state.cast(), &mut *out.cast())
+}
+
+/// # Safety
+/// As `dialmoth_open`.
+#[no_mangle]
+pub unsafe extern "C" fn dialmoth_turn(
+    state: *mut u64,
+    image: *mut u8,
+    length: usize,
+    sheet: *const u8,
+    sheet_length: usize,
+    limit: u64,
+    out: *mut u64,
+) -> u64 {
+    let (image, sheet) = (part_mut(image, length), part(sheet, sheet_length));
+    Reference.turn(&mut *state.cast(), image, sheet, limit, &mut *out.cast())
+}

@@ -1,11 +1,12 @@
 -- `gsd_steps::entry_extent` meets its contract.
 use borrow.Author.Needs.{needs}
-use Prim.Native.Nat.{ℕ, _+_, _*_, _-_, _/_, _<_}
+use Prim.Native.Nat.{ℕ, _+_, _*_, _-_, _/_, _%_, _<_}
 use mathlib.Core.Path.{_∙_}
 use native.Mathlib.Omega.{arith}
-use Rattle.gsd_steps.specs.Numbers.{rowsIn, slotIn}
 use Rattle.gsd_extents.specs.Extents.{number}
+use Rattle.gsd_steps.specs.Numbers.{rowsIn, slotIn}
 use Rattle.gsd_steps.specs.Steps.{entryExtent}
+use Rattle.gsd_steps.proofs.Steps.{four-fit}
 use Rattle.gsd_steps.proofs.entry_extent.Statement.{statement}
 use Rattle.gsd_steps.proofs.entry_extent.Tie as tie
 
@@ -27,7 +28,7 @@ entry-word-requires c κs =
     let sound = start .pre .0 in
     let s : ℕ = rowsIn (start .args .plan .now) - 1 - start .args .k / 4 in
     let few : s < rowsIn (start .args .plan .now) = omega (arith, start .pre .1) in
-    (sound .long, (omega (arith, sound .rows, few), (omega arith, (omega (arith, sound .table, sound .slotRows s few), sound .slotIds s few))))
+    (sound .front .long, (omega (arith, sound .front .rows, few), (omega arith, (omega (arith, sound .table, sound .slotRows s few), sound .slotIds s few))))
 
 shared-slice-read-number-extent : tie.Need-shared-slice-read-number-extent
 shared-slice-read-number-extent c = search needs
@@ -39,7 +40,7 @@ add-number-extent : tie.Need-add-number-extent
 add-number-extent c = search needs
 
 add-number-extent-2 : tie.Need-add-number-extent-2
-add-number-extent-2 c = search needs
+add-number-extent-2 c = omega (arith, c .before .before .of-four .ensures, four-fit (c .before .before .before .before .before .before .args .k % 4), c .before .before .before .before .before .before .pre .0 .slot)
 
 number-extent-requires : tie.Need-number-extent-requires
 number-extent-requires c κs = search needs

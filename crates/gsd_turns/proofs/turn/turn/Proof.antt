@@ -3,7 +3,6 @@ use borrow.Author.Needs.{needs}
 use Prim.Native.Nat.{_-_}
 use mathlib.Core.Path.{_∙_}
 use native.Mathlib.Omega.{arith}
-use Rattle.gsd_steps.proofs.Steps.{good-half}
 use Rattle.gsd_turns.proofs.Turns.{Turning, turning-none, extent-word, extent-good, extent-made, extent-over, turn-stop, turn-end}
 use Rattle.gsd_turns.proofs.turn.turn.Statement.{statement}
 use Rattle.gsd_turns.proofs.turn.turn.Tie as tie
@@ -33,11 +32,7 @@ loop-holds : tie.Need-loop-holds Inv-loop μ-loop
 loop-holds c = turning-none (c .before .before .before .before .before .pre .1)
 
 extent-at-requires : tie.Need-extent-at-requires Inv-loop μ-loop
-extent-at-requires c κs =
-    let x = c .before .before .before .before .before .before .before .args in
-    let ready = c .before .before .before .before .before .before .before .pre .0 in
-    let inside = c .loop-test .taken in
-    (ready .sound, (omega (arith, inside), good-half _ (x .sheet .now) (x .plan .now) _ (search needs) (search needs) ready (omega (arith, inside))))
+extent-at-requires c κs = (c .before .before .before .before .before .before .before .pre .0 .sound, omega (arith, c .loop-test .taken))
 
 some-stores-requires : tie.Need-some-stores-requires Inv-loop μ-loop
 some-stores-requires c κs =
@@ -75,7 +70,7 @@ returns c =
 
 add-r : tie.Need-add-r Inv-loop μ-loop
 add-r c =
-    let sound = c .before .before .before .before .before .before .before .before .before .before .before .before .before .before .pre .0 .sound in
+    let sound = c .before .before .before .before .before .before .before .before .before .before .before .before .before .before .pre .0 .sound .front in
     omega (arith, c .before .before .before .before .before .before .before .loop-test .taken, sound .rows, sound .fresh)
 
 loop-less : tie.Need-loop-less Inv-loop μ-loop

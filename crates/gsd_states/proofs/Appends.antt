@@ -1,13 +1,16 @@
 -- An accepted append, carried out by a plan that matches it: every prefix of the plan's tasks leaves what so many of the append's
--- stores leave, and a turn from the beginning is the append.
-use Prim.Native.Nat.{ℕ, zero, suc, _≤_, min}
+-- stores leave.
+use Prim.Native.Nat.{ℕ, zero, suc, _+_, _-_, _≤_, min}
 use mathlib.Core.Path.{_≡_, refl, sym, _∙_, ap}
 use mathlib.Core.List.{List}
+use native.Mathlib.Nat.{zero-add}
 use native.Mathlib.Omega.{arith}
-use lib.ListN.{length, getD, take}
+use lib.ListN.{length, take, drop, length-drop}
+use lib.Seq.{take-add}
+use Rattle.gsd_format.specs.Header.{headerSize, greatestLength}
 use Rattle.gsd_format.proofs.Bytes.{Octets}
 use Rattle.gsd_format.proofs.Refusals.{both}
-use Rattle.gsd_stores.specs.Stores.{half, after}
+use Rattle.gsd_stores.specs.Stores.{after}
 use Rattle.gsd_stores.specs.View.{viewOf}
 use Rattle.gsd_stores.specs.Sheet.{rowsOf, Exact}
 use Rattle.gsd_stores.specs.Append.{appendTest, storesFor, copiedEntries, appendAnswer, appended}
@@ -19,29 +22,21 @@ use Rattle.gsd_stores.proofs.Shown.{opens-shown}
 use Rattle.gsd_stores.proofs.Moments.{stores-are}
 use Rattle.gsd_stores.proofs.Moving.{copied-where}
 use Rattle.gsd_extents.specs.Exec.{tasks, exec, storesOf}
-use Rattle.gsd_extents.specs.Extents.{none}
-use Rattle.gsd_extents.proofs.Tasks.{tasks-rest, exec-after, storesOf-length}
-use Rattle.gsd_extents.proofs.Extents.{good-more}
+use Rattle.gsd_extents.proofs.Tasks.{exec-append, exec-after, storesOf-length}
 use Rattle.gsd_matched.specs.Matches.{Matches}
-use Rattle.gsd_plan.specs.Planning.{planned, Plans}
+use Rattle.gsd_plan.specs.Planning.{planned}
+use Rattle.gsd_steps.specs.Numbers.{rowsIn}
 use Rattle.gsd_steps.specs.Steps.{extentsOf, Ready, copiedIn}
 use Rattle.gsd_matched.proofs.Moves.{entries-copied}
 use Rattle.gsd_matched.proofs.StoreList.{stores-listed}
 use Rattle.gsd_matched.proofs.GoodExtents.{plan-ready}
-use Rattle.gsd_turns.specs.declared.turn.Turned.{Turned}
-use Rattle.gsd_turns.specs.Turns.{ahead, TurnSays}
+use Rattle.gsd_turns.specs.Turns.{wholeOf}
+use Rattle.gsd_turns.proofs.Count.{count-extents}
+use Rattle.gsd_states.specs.States.{Began}
 
 accepted-exact : (x sheet : List ℕ) → appendTest x sheet ≡ 0 → Exact sheet
 unfolding appendTest
 accepted-exact x sheet h = accepted _ sheet (both _ _ (both _ _ (both _ _ h .1) .1) .0) .exact
-
--- no slice is longer than half
-pub ready-half : (n : ℕ) (sheet p : List ℕ) → n ≤ half → Ready n sheet p → Ready half sheet p
-ready-half n sheet p a h = record {
-  sound = h .sound;
-  good = λ i l. good-more n (length sheet) half (length sheet) (getD (extentsOf sheet p) i none) a (omega arith) (h .good i l);
-  count = h .count;
-}
 
 -- a refused append
 pub refused-append : (x sheet : List ℕ) (limit k : ℕ) → k ≡ appendTest x sheet → (k ≡ 0 → ⊥)
@@ -56,8 +51,8 @@ pub record Carried (x sheet p : List ℕ) : Type 0 where
   pub rows : Octets sheet
   pub plan : Matches (viewOf x) sheet (planned x sheet) p
 
-pub carried : {x sheet p : List ℕ} {r : ℕ} → Plans x sheet (appendTest x sheet) r p → r ≡ 0 → Octets x → Octets sheet → Carried x sheet p
-carried h z ox os = let ok = sym (h .number) ∙ z in record { accepts = ok; image = ox; rows = os; plan = h .plan ok }
+pub carried : {x sheet s : List ℕ} → appendTest x sheet ≡ 0 → (b : Began x sheet s) → Carried x sheet (b .plan)
+carried ok b = record { accepts = ok; image = b .image; rows = b .rows; plan = b .matches }
 
 module _ {x sheet p : List ℕ} (h : Carried x sheet p) where
   valid-rows : Valid x (rowsOf sheet)
@@ -81,28 +76,42 @@ module _ {x sheet p : List ℕ} (h : Carried x sheet p) where
   pub append-ready : Ready (length x) sheet p
   append-ready = plan-ready sheet ready-plan shown (accepted-exact x sheet (h .accepts)) p (h .plan) (valid-rows .few)
 
-  -- a turn from the beginning makes the first so many stores, as many as its limit lets it
-  pub turn-appends : (limit : ℕ) (t : Turned) (y : List ℕ) → TurnSays sheet x p 0 0 limit t y
-      → (t .made ≡ min limit (length (storesFor x sheet))) × (y ≡ appended x sheet limit)
-  unfolding appended
-  turn-appends limit t y says =
-      let all : ahead sheet p 0 0 ≡ tasks (extentsOf sheet p) = sym (tasks-rest (extentsOf sheet p)) in
-      let made : t .made ≡ min limit (length (storesFor x sheet)) = says .made ∙ ap (λ n. min limit n) (ap length all ∙ plan-count) in (
-        made,
-        says .walked .image ∙ ap (λ ts. exec sheet x (take (t .made) ts)) all ∙ plan-prefix (t .made)
-            ∙ ap (λ k. after x (take k (storesFor x sheet))) made,
-      )
+  pub some-rows : 1 ≤ rowsIn p
+  some-rows = omega (arith, h .plan .numbers .rows, valid-rows .some)
 
-  -- the entries that the plan has copied are those of the append's step 5
-  plan-copied : copiedIn p ≡ copiedEntries x sheet
+  pub header-inside : (headerSize ≤ length x) × (length x ≤ greatestLength)
+  header-inside = (shown .front .low, shown .front .high)
+
+  -- how many stores there are, and how many entries step 5 copies, follows from the plan alone
+  pub plan-whole : wholeOf p ≡ length (storesFor x sheet)
+  plan-whole = sym (count-extents sheet p) ∙ plan-count
+
+  pub plan-copied : copiedIn p ≡ copiedEntries x sheet
   unfolding viewOf
   plan-copied = entries-copied ready-plan shown (h .plan .numbers) ∙ sym (copied-where x sheet valid-rows (h .accepts))
 
-  -- so the append answers as it is defined
-  pub accepted-append : (limit all copies : ℕ) (t : Turned) (y : List ℕ) → all ≡ length (tasks (extentsOf sheet p)) → copies ≡ copiedIn p →
-      TurnSays sheet x p 0 0 limit t y
-      → (record { number = 0; done = t .made; whole = all; copied = copies } ≡ appendAnswer x sheet limit) × (y ≡ appended x sheet limit)
-  unfolding appendAnswer
-  accepted-append limit all copies t y a c says =
-      let r = turn-appends limit t y says in
-      (λ i. record { number = sym (h .accepts) i; done = r .0 i; whole = (a ∙ plan-count) i; copied = (c ∙ plan-copied) i }, r .1)
+  -- where k stores are made, the next m tasks are the next m stores
+  pub next-tasks : (k m : ℕ) (y z : List ℕ) → y ≡ after x (take k (storesFor x sheet)) → z ≡ exec sheet y (take m (drop k (tasks (extentsOf sheet p))))
+      → z ≡ after x (take (k + m) (storesFor x sheet))
+  next-tasks k m y z e f =
+      let all = tasks (extentsOf sheet p) in
+      f
+      ∙ ap (λ l. exec sheet l (take m (drop k all))) (e ∙ sym (plan-prefix k))
+      ∙ sym (exec-append sheet x (take k all) (take m (drop k all)))
+      ∙ ap (exec sheet x) (sym (take-add k m all))
+      ∙ plan-prefix (k + m)
+
+  pub tasks-left : (k : ℕ) → length (drop k (tasks (extentsOf sheet p))) ≡ length (storesFor x sheet) - k
+  tasks-left k = length-drop k (tasks (extentsOf sheet p)) ∙ ap (λ n. n - k) plan-count
+
+  -- so the first stores of a plan are those of the append
+  pub accepted-append : (limit done : ℕ) (y : List ℕ) → done ≡ min limit (length (drop 0 (tasks (extentsOf sheet p))))
+      → y ≡ exec sheet x (take done (drop 0 (tasks (extentsOf sheet p))))
+      → (record { number = 0; done = done; whole = length (storesFor x sheet); copied = copiedEntries x sheet } ≡ appendAnswer x sheet limit)
+      × (y ≡ appended x sheet limit)
+  unfolding appendAnswer appended after
+  accepted-append limit done y d e =
+      let made : done ≡ min limit (length (storesFor x sheet)) = omega (arith, d, tasks-left 0) in (
+        (λ i. record { number = sym (h .accepts) i; done = made i; whole = length (storesFor x sheet); copied = copiedEntries x sheet }),
+        next-tasks 0 done x y refl e ∙ ap (λ n. after x (take n (storesFor x sheet))) (zero-add done ∙ made),
+      )

@@ -1,0 +1,2 @@
+-- Whether a plan can be carried out.
+pub mod Feasible

@@ -1,0 +1,2 @@
+-- What the words of a state are.
+pub mod States
