@@ -8,6 +8,7 @@ import numpy
 import gsd.fl
 
 NAMES = ["probe", "heater", "setpoint"]
+PROBES = ["probe/00/reading", "probe/01/reading", "probe/02/reading"]
 FRAMES = 1440
 
 
@@ -46,6 +47,23 @@ def read_day(path):
     return work
 
 
+def walk_readings(path):
+    """The least and the greatest reading of each probe, frame by frame."""
+    file = gsd.fl.open(path, "rb")
+
+    def work():
+        readings = {name: [] for name in PROBES}
+        for frame in range(file.nframes):
+            for name in PROBES:
+                try:
+                    readings[name].append(file.read_chunk(frame, name)[0])
+                except KeyError:  # no such chunk
+                    pass
+        extremes = [(min(values), max(values)) for values in readings.values()]
+        assert sum(map(len, readings.values())) == 40000 and extremes[0][0] == 20
+    return work
+
+
 def append_day(path):
     probe = numpy.array([20, 21, 22], dtype=numpy.float32)
     heater = numpy.array([40], dtype=numpy.uint8)
@@ -73,12 +91,14 @@ def append_large(path):
 
 def main():
     folder = sys.argv[1]
-    month, names, day, new = (
-        os.path.join(folder, name) for name in ["month.gsd", "names.gsd", "day.gsd", "new.gsd"])
+    month, names, day, readings, new = (
+        os.path.join(folder, f"{name}.gsd")
+        for name in ["month", "names", "day", "readings", "new"])
     print("open_month", best(open_file(month)))
     print("open_names", best(open_file(names)))
     print("lookup_day", best(lookup_day(day)))
     print("read_day", best(read_day(day)))
+    print("walk_readings", best(walk_readings(readings)))
     print("append_day", best(append_day(new)))
     print("append_large", best(append_large(new), 0.3))
 

@@ -6,26 +6,29 @@
  * 1,073,741,824 bytes; a file's content, or a region laid out beforehand that
  * is longer than what is used. No call keeps a pointer, allocates, locks, or
  * touches anything but its arguments, and the library has no state between calls
- * (that of an append in turns is the caller's, an argument like the others): any
- * thread may call, and several at once where none writes what another uses.
+ * (that of an append in turns and a reader are the caller's, arguments like the
+ * others): any thread may call, and several at once where none writes what another
+ * uses.
  *
  * The archive is for x86-64 (System V), for C and C++, and takes memcpy and
  * memset from the C library, nothing else. Beside what these two use, the stack
  * needs at most 9 KiB for a reading call, 13 KiB for append, 16 KiB for begin,
- * 11 KiB for turn, 1 KiB for create.
+ * 11 KiB for turn, 1 KiB for create, 1 KiB for a reader's calls; reader_open is a
+ * reading call.
  *
  * Every call answers a number: 0, or that of the refusal, listed below with its
- * name and its text. A refusal changes nothing, neither the image nor out; only
- * append, begin, turn and probes set their out at every call, the first three to
- * zeros when refused, and a refused begin sets its state to zeros as well.
+ * name and its text. A refusal changes nothing, neither the image nor out nor a
+ * reader; only append, begin, turn and probes set their out at every call, the first
+ * three to zeros when refused, and a refused begin sets its state to zeros as well.
  *
  * Opening costs at most some passes over the image's bytes, whatever it holds,
  * but for names made on purpose to have one 32-bit fingerprint: these are
- * compared pair by pair (1,024 such names of 64 KiB: seconds, each time).
+ * compared pair by pair (1,024 such names of 64 KiB: seconds, each time). Where much
+ * is asked of one image, open it once and keep a reader, below.
  *
  * Pointers are never null, not even with length 0; bytes may lie at any address.
- * What a call writes, the image of create, append and turn, the state and every
- * out, overlaps no other argument.
+ * What a call writes, the image of create, append and turn, the state, the reader of
+ * reader_open and every out, overlaps no other argument.
  */
 #ifndef DIALMOTH_H
 #define DIALMOTH_H
@@ -40,8 +43,9 @@ extern "C" {
 /* The refusals, R(number, name, text) for each: refused exactly when the text
  * holds. The first that applies is answered. */
 #define DIALMOTH_REFUSALS(R)                                                                    \
-    /* Opening, in this order; every call but create and turn opens first. Tests 12 to 18       \
-     * run entry by entry: the first bad entry decides, and in it the lowest number. */         \
+    /* Opening, in this order; every call but create, turn and those that take a reader opens   \
+     * first. Tests 12 to 18 run entry by entry: the first bad entry decides, and in it the     \
+     * lowest number. */                                                                        \
     R(1, DIALMOTH_SHORT_IMAGE, "image under 256 bytes")                                         \
     R(2, DIALMOTH_LONG_IMAGE, "image over 1,073,741,824 bytes")                                 \
     R(3, DIALMOTH_WRONG_MAGIC, "wrong magic")                                                   \
@@ -79,7 +83,10 @@ extern "C" {
     /* Turn. */                                                                                 \
     R(32, DIALMOTH_NOT_EXPECTED,                                                                \
       "a refused begin's state, or a length or header words 8 to 32 not as it expects")         \
-    /* Lookup, chunk, element and probes, in this order. */                                     \
+    /* Reader calls but reader_open, first; chunk and element also after 42. */                 \
+    R(33, DIALMOTH_NOT_FITTING,                                                                 \
+      "the reader, or a chunk found by it, does not fit the image")                             \
+    /* Lookup, chunk, element and probes, find and newest, in this order; id has 41 alone. */   \
     R(40, DIALMOTH_NO_FRAME, "frame not below the number of frames")                            \
     R(41, DIALMOTH_NO_NAME, "name not listed")                                                  \
     R(42, DIALMOTH_NO_CHUNK, "no such chunk in the frame")                                      \
@@ -138,7 +145,8 @@ enum dialmoth_kind {
     DIALMOTH_KIND_DOUBLE = 4    /* the double's 64 bits */
 };
 
-/* Places in the out of dialmoth_entry and dialmoth_lookup. */
+/* Places in the out of dialmoth_entry and dialmoth_lookup, and of a reader's entry,
+ * lookup, find and newest. */
 enum dialmoth_field {
     DIALMOTH_ENTRY_FRAME,
     DIALMOTH_ENTRY_N,
@@ -200,6 +208,117 @@ uint64_t dialmoth_element(const uint8_t *image, size_t image_length,
 uint64_t dialmoth_probes(const uint8_t *image, size_t image_length,
                          uint64_t frame, const uint8_t *name,
                          size_t name_length, uint64_t out[1]);
+
+/* A reader, for a caller that asks much of one image: dialmoth_reader_open opens it
+ * once, and the eight calls behind it answer from reader and image, and do not test
+ * the image again. On the image that was opened they answer as the calls without a
+ * reader.
+ *
+ * A reader is eight plain words without a pointer. Copy it, keep it, hand it to
+ * another thread, write it to a file: it reads the same image, or a copy of its
+ * bytes, wherever that lies by then.
+ * It answers as of its moment, for ever. Whatever appends are made later, whole or
+ * stopped or in turns, refused ones too, each call with this reader answers exactly
+ * as it did before them: numbers, entries, names, places, and the bytes in the places
+ * of chunks. A later frame is for a reader that is opened later, and half a frame is
+ * for none.
+ * Outside that promise is every other writer on the slice: a create, or stores of the
+ * program's own. The calls are then still safe and say what the words and the bytes
+ * by then say, as below, which may be nothing that was ever recorded. Reading while
+ * another thread stores is outside it too: read between appends, or between two
+ * turns.
+ *
+ * Any words are safe as a reader, with an image of any length and content: no byte
+ * outside of the image is touched, and the answer is 0 or one of the numbers that the
+ * call names. The calls read as many slots from the index on as there are entries,
+ * whatever these hold, and as many names at most as the reader has, in the name
+ * list's bytes: those before the first that is empty or not closed there (in 1.0 one
+ * to a segment, all 64 bytes of it where it has no zero).
+ * DIALMOTH_NOT_FITTING says that the image has over 1,073,741,824 bytes, that the
+ * version is none that opens or the names are over 1,024, or that the entries or the
+ * name list end beyond the image. After a lookup it says that the entry found has a
+ * type not known in the reader's version, or a chunk that ends beyond the image. It
+ * says no more than that: magic, header, order and the rest that opening tests are
+ * not looked at, and a reader of another image that happens to fit is not refused. */
+enum dialmoth_reader {
+    DIALMOTH_READER_FRAMES, /* the first three are as the out of dialmoth_open */
+    DIALMOTH_READER_NAMES,
+    DIALMOTH_READER_ENTRIES,
+    DIALMOTH_READER_INDEX,    /* where the entries start, 32 bytes each */
+    DIALMOTH_READER_NAMELIST, /* where the names start */
+    DIALMOTH_READER_SIZE,     /* their bytes, closing zeros too; in 1.0 64 a name */
+    DIALMOTH_READER_VERSION,  /* 0x00010000, 0x00020000 or 0x00020001 */
+    DIALMOTH_READER_WORDS = 8 /* the last one is 0, and no call looks at it */
+};
+
+/* Opens the image and sets the reader, or leaves it as it was: numbers 1 to 18, as
+ * dialmoth_open. It takes the time of an opening, over 100 microseconds with 40,000
+ * entries; the calls below do not. */
+uint64_t dialmoth_reader_open(const uint8_t *image, size_t image_length,
+                              uint64_t reader[DIALMOTH_READER_WORDS]);
+
+/* The n-th name, found by going through those before it. Numbers: 33, 44.
+ * out: as dialmoth_name. */
+uint64_t dialmoth_reader_name(const uint64_t reader[DIALMOTH_READER_WORDS],
+                              const uint8_t *image, size_t image_length,
+                              uint64_t n, uint64_t out[2]);
+
+/* The n-th entry, with no search: go from 0 up to the reader's entries for all chunks
+ * of an image. Numbers: 33, 44. out: as dialmoth_entry.
+ * Of an image that opened, and has had appends alone since, each one's chunk lies in
+ * the image, from its location on. Of other words or bytes test that, and the type,
+ * before the chunk is read, or ask dialmoth_reader_chunk. */
+uint64_t dialmoth_reader_entry(const uint64_t reader[DIALMOTH_READER_WORDS],
+                               const uint8_t *image, size_t image_length,
+                               uint64_t n, uint64_t out[7]);
+
+/* The entry of a name in a frame. Numbers: 33, 40, 41, 42, the last as of
+ * dialmoth_lookup: no value stands for it. out: as dialmoth_entry.
+ * It goes through the names each time: where one is asked for often, ask for its id
+ * once, then find and newest by that. */
+uint64_t dialmoth_reader_lookup(const uint64_t reader[DIALMOTH_READER_WORDS],
+                                const uint8_t *image, size_t image_length,
+                                uint64_t frame, const uint8_t *name,
+                                size_t name_length, uint64_t out[7]);
+
+/* The bytes of a chunk. Numbers: 33, 40, 41, 42, then 33 of the entry found.
+ * out: as dialmoth_chunk. */
+uint64_t dialmoth_reader_chunk(const uint64_t reader[DIALMOTH_READER_WORDS],
+                               const uint8_t *image, size_t image_length,
+                               uint64_t frame, const uint8_t *name,
+                               size_t name_length, uint64_t out[2]);
+
+/* Element k of a chunk. Numbers: as dialmoth_reader_chunk, then 43.
+ * out: as dialmoth_element. */
+uint64_t dialmoth_reader_element(const uint64_t reader[DIALMOTH_READER_WORDS],
+                                 const uint8_t *image, size_t image_length,
+                                 uint64_t frame, const uint8_t *name,
+                                 size_t name_length, uint64_t k,
+                                 uint64_t out[2]);
+
+/* The id of a name, the first one's of equal names. Numbers: 33, 41. out: the id.
+ * Appends leave a listed name its id, so one asked for once is good for every later
+ * reader of the image. */
+uint64_t dialmoth_reader_id(const uint64_t reader[DIALMOTH_READER_WORDS],
+                            const uint8_t *image, size_t image_length,
+                            const uint8_t *name, size_t name_length,
+                            uint64_t out[1]);
+
+/* The entry of an id in a frame, as dialmoth_reader_lookup by the id's name. Numbers:
+ * 33, 40, 41 where the id is not below the number of names, 42.
+ * out: as dialmoth_entry. */
+uint64_t dialmoth_reader_find(const uint64_t reader[DIALMOTH_READER_WORDS],
+                              const uint8_t *image, size_t image_length,
+                              uint64_t frame, uint64_t id, uint64_t out[7]);
+
+/* The entry of an id in the newest frame at or below `frame` that has one. Numbers:
+ * 33, 40, 41 as dialmoth_reader_find, and 42 where no frame up to this one has a
+ * chunk of the id: no value stands for that. out: as dialmoth_entry; its first is the
+ * frame.
+ * It goes back entry by entry, so it takes the longer the older that frame is. */
+uint64_t dialmoth_reader_newest(const uint64_t reader[DIALMOTH_READER_WORDS],
+                                const uint8_t *image, size_t image_length,
+                                uint64_t frame, uint64_t id, uint64_t out[7]);
 
 /* Makes a fresh image of version 2.1 with no frame. 0 slots stand for 512 (once
  * for 64), 0 segments for 16. The index lies at 256, the names at 256 + 32 * slots

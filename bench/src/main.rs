@@ -7,17 +7,19 @@
 //!   bench moves           prints what moving the index costs
 
 mod fingerprint;
+mod reader;
 mod work;
 
 use differential::images::{V1_0, V2_1};
 use differential::library::{Library, Reference};
 use differential::reference;
+use reader::{Plain, Readers};
 use std::collections::HashMap;
 use std::hint::black_box;
 use std::path::Path;
 use std::time::{Duration, Instant};
 use std::{env, fs, process};
-use work::{joined, pair, Day, Large, Moves, Next, Stored, Turns};
+use work::{joined, pair, Day, Large, Moves, Named, Next, Readings, Stored, Turns};
 
 /// Each row's times are medians of so many passes over the table.
 const PASSES: usize = 7;
@@ -117,6 +119,7 @@ impl Row {
 /// The rows of one pass, and those of the first where this is another.
 struct Pass<'l> {
     library: &'l dyn Library,
+    readers: &'l dyn Readers,
     first: Option<&'l [Row]>,
     rows: Vec<Row>,
 }
@@ -173,6 +176,20 @@ impl Pass<'_> {
     ) -> Duration {
         self.both(what, key, &mut (), |_| {}, 1, |_, library, _| call(library))
     }
+
+    /// Calls of a reader, so many; the row has the time of one.
+    fn reader(
+        &mut self,
+        what: &'static str,
+        key: &'static str,
+        calls: u32,
+        work: impl Fn(&dyn Readers),
+    ) {
+        let readers = self.readers;
+        let sides: &mut [Side<()>] = &mut [&mut |_, _| work(readers), &mut |_, _| work(&Plain)];
+        let times = best(&mut (), |_| {}, 1, sides);
+        self.row(what, key, times[0] / calls, times[1] / calls);
+    }
 }
 
 /// The middle one.
@@ -210,6 +227,16 @@ fn library() -> (&'static dyn Library, &'static str) {
 #[cfg(not(linked))]
 fn library() -> (&'static dyn Library, &'static str) {
     (&Reference, "no libdialmoth.a: the plain Rust implementation stands in for it")
+}
+
+#[cfg(linked)]
+fn readers() -> &'static dyn Readers {
+    &reader::Linked
+}
+
+#[cfg(not(linked))]
+fn readers() -> &'static dyn Readers {
+    &Plain
 }
 
 fn open(library: &dyn Library, image: &[u8]) {
@@ -298,6 +325,7 @@ fn days(pass: &mut Pass) {
     pass.reading("element, 4,320 entries", "", |l| element(l, &day.image, 700));
     let what = "all 4,320 chunks of a day";
     pass.both(what, "read_day", &mut day, |_| {}, work::FRAMES, |day, l, n| day.read(l, n));
+    pass.reader("reader: open, then all 4,320 chunks of a day", "read_day", 1, |r| day.read_all(r));
     appends(pass, &mut day);
 }
 
@@ -328,6 +356,40 @@ fn search(pass: &mut Pass, what: &'static str, month: Vec<u8>) {
     ];
     let times = best(&mut (), |_| {}, 1, sides);
     pass.beyond_opening(what, &times);
+}
+
+/// An image opened once, beside plain Rust that keeps the same words.
+fn all_readers(pass: &mut Pass) {
+    let readings = Readings::new(V2_1, pass.readers);
+    pass.reader("reader: open, 40,000 entries, 3 names", "", 1, |r| readings.open(r));
+    let what = "reader: least and greatest reading of 3 probes over 40,000 entries";
+    walk(pass, [what, "the same, beside a loop over the slots"], "walk_readings", &readings);
+    let what = "reader: lookup, 40,000 entries, 3 names";
+    pass.reader(what, "", Readings::ASKED, |r| readings.lookups(r));
+    pass.reader("reader: find by id", "", Readings::ASKED, |r| readings.finds(r));
+    pass.reader("reader: newest by id", "", Readings::ASKED, |r| readings.newest(r));
+
+    let old = Readings::new(V1_0, pass.readers);
+    let what = "reader 1.0: least and greatest reading of 3 probes over 40,000 entries";
+    walk(pass, [what, "the same, beside a loop over the slots"], "", &old);
+    let what = "reader 1.0: lookup, 40,000 entries, 3 names";
+    pass.reader(what, "", Readings::ASKED, |r| old.lookups(r));
+
+    let names = Named::new(pass.readers);
+    pass.reader("reader: id of the last of 1,024 names", "", 1, |r| names.last_id(r));
+}
+
+/// All entries, beside plain Rust that answers one after the other too, and that needs no calls.
+fn walk(pass: &mut Pass, whats: [&'static str; 2], key: &'static str, readings: &Readings) {
+    let readers = pass.readers;
+    let sides: &mut [Side<()>] = &mut [
+        &mut |_, _| readings.walk(readers),
+        &mut |_, _| readings.walk(&Plain),
+        &mut |_, _| readings.walk_in_a_loop(),
+    ];
+    let times = best(&mut (), |_| {}, 1, sides);
+    pass.row(whats[0], key, times[0], times[1]);
+    pass.row(whats[1], "", times[0], times[2]);
 }
 
 /// One more frame behind many entries.
@@ -430,11 +492,12 @@ fn large_chunks(pass: &mut Pass) {
 }
 
 fn pass(library: &dyn Library, first: Option<&[Row]>) -> Vec<Row> {
-    let mut pass = Pass { library, first, rows: Vec::new() };
+    let mut pass = Pass { library, readers: readers(), first, rows: Vec::new() };
     opening(&mut pass);
     days(&mut pass);
     search(&mut pass, "lookup, 40,000 entries", work::month());
     search(&mut pass, "lookup 1.0, 40,000 entries", work::old_month());
+    all_readers(&mut pass);
     next(&mut pass, "append a frame of 3 chunks behind 40,000 entries", Next::fitting());
     next(&mut pass, "append a frame of 3 chunks, 65,536 slots", Next::doubled());
     all_turns(&mut pass);
@@ -534,10 +597,14 @@ fn table(real: HashMap<String, f64>) {
     print(&passes, &real);
 
     println!();
+    println!("Every call but a turn and those of a reader opens its image first: a lookup among");
     println!(
-        "Every call but a turn opens its image first: a lookup among 4,320 entries reads them"
+        "4,320 entries reads them all, and some once more in its search. That among 40,000 is"
     );
-    println!("all, and some once more in its search. That among 40,000 is of their last frame.");
+    println!("of their last frame, again and again; a reader's lookup, find and newest have the");
+    println!(
+        "mean of 1,000 to and fro over all frames. Plain Rust keeps the same words of a reader."
+    );
     println!(
         "An append is begin and one turn, and beside it the single call. The slowest turn has"
     );
@@ -563,8 +630,12 @@ fn main() {
     let words: Vec<&str> = words.iter().map(String::as_str).collect();
     match words[..] {
         ["images", folder] => {
-            let images =
-                [("month", work::month()), ("names", work::names()), ("day", Day::new().image)];
+            let images = [
+                ("month", work::month()),
+                ("names", work::names()),
+                ("day", Day::new().image),
+                ("readings", Readings::new(V2_1, readers()).image),
+            ];
             for (name, image) in images {
                 fs::write(Path::new(folder).join(format!("{name}.gsd")), image).unwrap();
             }

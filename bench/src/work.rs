@@ -1,11 +1,13 @@
-//! What is timed and counted: a month's index, many names, a day and a month of frames, large chunks.
+//! What is timed and counted: a month's index, many names, readings, a day and a month of frames, large
+//! chunks.
 
 use crate::fingerprint;
+use crate::reader::{Readers, View, Words};
 use differential::ask::Ask;
 use differential::generate::shortest;
 use differential::images::{
-    blank, get64, lawful_rows, put32, put_names, put_slots, segments_for, sheet, version, Row,
-    Slot, V1_0, V2_1,
+    blank, get64, lawful_rows, put32, put64, put_names, put_slots, segments_for, sheet, version,
+    Row, Slot, V1_0, V2_1,
 };
 use differential::library::{Create, Library, Reference, State, REFUSED};
 use std::hint::black_box;
@@ -20,9 +22,15 @@ pub const MONTH: u64 = 2500;
 /// Slots of a fresh image whose calls are timed.
 const SLOTS: u64 = 64;
 
-/// 2,500 frames of such names, in which 40,000 chunks are there; and some free slots, with room for
-/// their data. In 1.0 each frame was written from its last id to its first.
-fn index(version: u32, names: &[String], there: impl Fn(u64, u16) -> bool, free: usize) -> Vec<u8> {
+/// Frames of such names, in which 40,000 chunks are there; and some free slots, with room for their
+/// data. In 1.0 each frame was written from its last id to its first.
+fn index_of(
+    version: u32,
+    names: &[String],
+    frames: u64,
+    there: impl Fn(u64, u16) -> bool,
+    free: usize,
+) -> Vec<u8> {
     let (slots, segments) = (ENTRIES + free, segments_for(version, names).max(8));
     let data = 256 + 32 * slots + 64 * segments;
     // What is appended starts on multiples of 64.
@@ -32,7 +40,7 @@ fn index(version: u32, names: &[String], there: impl Fn(u64, u16) -> bool, free:
     put32(&mut image, 44, version);
     let count = names.len() as u16;
     let id = |n: u16| if version == V1_0 { count - 1 - n } else { n };
-    let keys = (0..MONTH).flat_map(|frame| (0..count).map(move |n| (frame, id(n))));
+    let keys = (0..frames).flat_map(|frame| (0..count).map(move |n| (frame, id(n))));
     let entries: Vec<_> = keys
         .filter(|&(frame, id)| there(frame, id))
         .enumerate()
@@ -42,6 +50,11 @@ fn index(version: u32, names: &[String], there: impl Fn(u64, u16) -> bool, free:
     put_slots(&mut image, 256, &entries);
     put_names(&mut image, data - 64 * segments, names.iter().map(String::as_bytes));
     image
+}
+
+/// 2,500 frames.
+fn index(version: u32, names: &[String], there: impl Fn(u64, u16) -> bool, free: usize) -> Vec<u8> {
+    index_of(version, names, MONTH, there, free)
 }
 
 fn probes(count: usize) -> Vec<String> {
@@ -71,6 +84,154 @@ pub fn month_with_missing(version: u32) -> Vec<u8> {
 pub fn month_of_names(version: u32) -> Vec<u8> {
     let names: Vec<_> = (0..NAMES).map(|n| format!("cabinet/reading {n:04}")).collect();
     index(version, &names, |frame, id| u64::from(id / 16) == frame % 64, 0)
+}
+
+/// Probes of an image of readings.
+const PROBES: usize = 3;
+
+/// Frames in which all of them are there; one probe's reading is left for the frame behind them.
+const WHOLE: usize = ENTRIES / PROBES;
+
+/// 40,000 floats, one of each of three probes a frame.
+fn month_of_readings(version: u32) -> Vec<u8> {
+    let there = |frame, id| frame < WHOLE as u64 || id == 0;
+    let mut image = index_of(version, &probes(PROBES), WHOLE as u64 + 1, there, 0);
+    for n in 0..ENTRIES {
+        let slot = 256 + 32 * n;
+        let location = get64(&image, slot + 16) as usize;
+        let reading = 20.0 + (7919 * n % 1009) as f32 / 64.0;
+        put64(&mut image, slot + 8, 1);
+        image[slot + 30] = 9;
+        image[location..][..4].copy_from_slice(&reading.to_le_bytes());
+    }
+    image
+}
+
+/// The least and the greatest reading of each probe.
+type Extremes = [[f32; 2]; PROBES];
+
+const NOTHING_SEEN: Extremes = [[f32::INFINITY, f32::NEG_INFINITY]; PROBES];
+
+fn see(extremes: &mut Extremes, id: usize, bytes: &[u8]) {
+    let reading = f32::from_le_bytes(bytes.try_into().unwrap());
+    let [least, most] = &mut extremes[id];
+    *least = least.min(reading);
+    *most = most.max(reading);
+}
+
+/// An image of readings, and the reader that opening it gave.
+pub struct Readings {
+    pub image: Vec<u8>,
+    reader: Words,
+    names: Vec<String>,
+    extremes: Extremes,
+}
+
+impl Readings {
+    /// So many questions at once: the frames and the probes of these go to and fro.
+    pub const ASKED: u32 = 1000;
+
+    pub fn new(version: u32, readers: &dyn Readers) -> Readings {
+        let image = month_of_readings(version);
+        let reader = opened(readers, &image);
+        let mut readings =
+            Readings { image, reader, names: probes(PROBES), extremes: NOTHING_SEEN };
+        readings.extremes = readings.looped();
+        readings
+    }
+
+    pub fn open(&self, readers: &dyn Readers) {
+        assert_eq!(opened(readers, &self.image), self.reader);
+    }
+
+    /// Goes over all entries, by a call for each.
+    pub fn walk(&self, readers: &dyn Readers) {
+        let (reader, image) = (black_box(&self.reader), black_box(&self.image[..]));
+        let mut extremes = NOTHING_SEEN;
+        for n in 0..reader[2] {
+            let mut entry = [0; 7];
+            assert_eq!(readers.reader_entry(reader, image, n, &mut entry), 0);
+            let [_, n, location, m, id, kind, _] = entry;
+            assert!(kind == 9 && n * m == 1);
+            see(&mut extremes, id as usize, &image[location as usize..][..4]);
+        }
+        assert_eq!(black_box(extremes), self.extremes);
+    }
+
+    /// The same in plain Rust, as a loop over the slots with nothing called.
+    fn looped(&self) -> Extremes {
+        let view = View::new(black_box(&self.reader), black_box(&self.image)).unwrap();
+        let mut extremes = NOTHING_SEEN;
+        for entry in view.entries() {
+            assert_eq!(entry.kind, 9);
+            see(&mut extremes, entry.id.into(), view.chunk(entry).unwrap());
+        }
+        extremes
+    }
+
+    pub fn walk_in_a_loop(&self) {
+        assert_eq!(black_box(self.looped()), self.extremes);
+    }
+
+    /// Frame and probe of each question.
+    fn asked() -> impl Iterator<Item = (u64, usize)> {
+        (0..Self::ASKED as usize).map(|n| ((7919 * n % WHOLE) as u64, n % PROBES))
+    }
+
+    pub fn lookups(&self, readers: &dyn Readers) {
+        let (reader, image) = (black_box(&self.reader), black_box(&self.image[..]));
+        for (frame, probe) in Self::asked() {
+            let (name, mut entry) = (self.names[probe].as_bytes(), [0; 7]);
+            assert_eq!(readers.reader_lookup(reader, image, frame, name, &mut entry), 0);
+            assert_eq!((entry[0], entry[4]), (frame, probe as u64));
+        }
+    }
+
+    pub fn finds(&self, readers: &dyn Readers) {
+        let (reader, image) = (black_box(&self.reader), black_box(&self.image[..]));
+        for (frame, probe) in Self::asked() {
+            let mut entry = [0; 7];
+            assert_eq!(readers.reader_find(reader, image, frame, probe as u64, &mut entry), 0);
+            assert_eq!((entry[0], entry[4]), (frame, probe as u64));
+        }
+    }
+
+    pub fn newest(&self, readers: &dyn Readers) {
+        let (reader, image) = (black_box(&self.reader), black_box(&self.image[..]));
+        for (frame, probe) in Self::asked() {
+            let mut entry = [0; 7];
+            assert_eq!(readers.reader_newest(reader, image, frame, probe as u64, &mut entry), 0);
+            assert_eq!((entry[0], entry[4]), (frame, probe as u64));
+        }
+    }
+}
+
+fn opened(readers: &dyn Readers, image: &[u8]) -> Words {
+    let mut reader = [0; 8];
+    assert_eq!(readers.reader_open(black_box(image), &mut reader), 0);
+    black_box(reader)
+}
+
+/// 1,024 names, and the reader that opening gave.
+pub struct Named {
+    image: Vec<u8>,
+    reader: Words,
+    last: Vec<u8>,
+}
+
+impl Named {
+    pub fn new(readers: &dyn Readers) -> Named {
+        let image = names();
+        let reader = opened(readers, &image);
+        Named { image, reader, last: nth_name(NAMES - 1) }
+    }
+
+    /// The id of the last name.
+    pub fn last_id(&self, readers: &dyn Readers) {
+        let (reader, image, mut id) = (black_box(&self.reader), black_box(&self.image), [0]);
+        assert_eq!(readers.reader_id(reader, image, &self.last, &mut id), 0);
+        assert_eq!(id, [NAMES as u64 - 1]);
+    }
 }
 
 /// What the searches of some lookups probe.
@@ -112,10 +273,13 @@ fn naming(names: &[Vec<u8>]) -> Vec<u8> {
     image
 }
 
+fn nth_name(n: usize) -> Vec<u8> {
+    format!("cabinet/reading {n:04}").into_bytes()
+}
+
 /// 1,024 names of one length that begin alike.
 pub fn names() -> Vec<u8> {
-    let name = |n| format!("cabinet/reading {n:04}").into_bytes();
-    naming(&(0..NAMES).map(name).collect::<Vec<_>>())
+    naming(&(0..NAMES).map(nth_name).collect::<Vec<_>>())
 }
 
 /// 1,024 names of 65,535 bytes, alike but for four shortly before the last: 64 MiB.
@@ -181,6 +345,9 @@ fn turn(
 fn readings(minute: usize) -> [[u8; 4]; 3] {
     [0, 1, 2].map(|probe| (20.0 + probe as f32 + minute as f32 / 60.0).to_le_bytes())
 }
+
+/// The chunks of a frame of three.
+const CHUNKS: [&[u8]; 3] = [b"probe", b"heater", b"setpoint"];
 
 /// A minute's sheet: three readings, the heater's duty and a setpoint.
 pub fn frame(minute: usize) -> Vec<u8> {
@@ -278,10 +445,21 @@ impl Day {
 
     /// Reads the three chunks of one frame.
     pub fn read(&self, library: &dyn Library, minute: usize) {
-        for name in [&b"probe"[..], b"heater", b"setpoint"] {
+        for name in CHUNKS {
             let mut out = [0; 2];
             let image = black_box(&self.image);
             assert_eq!(library.chunk(image, minute as u64, name, &mut out), 0);
+            black_box(out);
+        }
+    }
+
+    /// Opens the image once, and reads the three chunks of every frame.
+    pub fn read_all(&self, readers: &dyn Readers) {
+        let reader = opened(readers, &self.image);
+        for (minute, name) in (0..FRAMES as u64).flat_map(|n| CHUNKS.map(|name| (n, name))) {
+            let mut out = [0; 2];
+            let image = black_box(&self.image);
+            assert_eq!(readers.reader_chunk(&reader, image, minute, name, &mut out), 0);
             black_box(out);
         }
     }

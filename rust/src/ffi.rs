@@ -6,6 +6,9 @@
 /// Words of the state of an append in turns.
 pub const STATE_WORDS: usize = 406;
 
+/// Words of a reader.
+pub const READER_WORDS: usize = 8;
+
 extern "C" {
     /// `out`: frames, names, entries.
     pub fn dialmoth_open(image: *const u8, image_length: usize, out: *mut [u64; 3]) -> u64;
@@ -56,6 +59,95 @@ extern "C" {
         name: *const u8,
         name_length: usize,
         out: *mut [u64; 1],
+    ) -> u64;
+
+    /// A refusal leaves the reader as it was.
+    pub fn dialmoth_reader_open(
+        image: *const u8,
+        image_length: usize,
+        reader: *mut [u64; READER_WORDS],
+    ) -> u64;
+
+    /// `out`: start, length.
+    pub fn dialmoth_reader_name(
+        reader: *const [u64; READER_WORDS],
+        image: *const u8,
+        image_length: usize,
+        n: u64,
+        out: *mut [u64; 2],
+    ) -> u64;
+
+    /// `out`: frame, N, location, M, id, type, flags.
+    pub fn dialmoth_reader_entry(
+        reader: *const [u64; READER_WORDS],
+        image: *const u8,
+        image_length: usize,
+        n: u64,
+        out: *mut [u64; 7],
+    ) -> u64;
+
+    /// `out`: frame, N, location, M, id, type, flags.
+    pub fn dialmoth_reader_lookup(
+        reader: *const [u64; READER_WORDS],
+        image: *const u8,
+        image_length: usize,
+        frame: u64,
+        name: *const u8,
+        name_length: usize,
+        out: *mut [u64; 7],
+    ) -> u64;
+
+    /// `out`: start, length.
+    pub fn dialmoth_reader_chunk(
+        reader: *const [u64; READER_WORDS],
+        image: *const u8,
+        image_length: usize,
+        frame: u64,
+        name: *const u8,
+        name_length: usize,
+        out: *mut [u64; 2],
+    ) -> u64;
+
+    /// `out`: kind (1 unsigned, 2 signed, 3 single, 4 double), bits.
+    pub fn dialmoth_reader_element(
+        reader: *const [u64; READER_WORDS],
+        image: *const u8,
+        image_length: usize,
+        frame: u64,
+        name: *const u8,
+        name_length: usize,
+        k: u64,
+        out: *mut [u64; 2],
+    ) -> u64;
+
+    /// `out`: the id.
+    pub fn dialmoth_reader_id(
+        reader: *const [u64; READER_WORDS],
+        image: *const u8,
+        image_length: usize,
+        name: *const u8,
+        name_length: usize,
+        out: *mut [u64; 1],
+    ) -> u64;
+
+    /// `out`: frame, N, location, M, id, type, flags.
+    pub fn dialmoth_reader_find(
+        reader: *const [u64; READER_WORDS],
+        image: *const u8,
+        image_length: usize,
+        frame: u64,
+        id: u64,
+        out: *mut [u64; 7],
+    ) -> u64;
+
+    /// `out`: frame, N, location, M, id, type, flags.
+    pub fn dialmoth_reader_newest(
+        reader: *const [u64; READER_WORDS],
+        image: *const u8,
+        image_length: usize,
+        frame: u64,
+        id: u64,
+        out: *mut [u64; 7],
     ) -> u64;
 
     pub fn dialmoth_create(

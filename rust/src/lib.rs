@@ -14,7 +14,7 @@
 //! ```
 //!
 //! An append is begun and then made in one turn or many, as there is time; [`append`] is the two in one
-//! call.
+//! call. Each call opens its image; a [`Reader`] opens it once, for those who ask much of one.
 //!
 //! What is not there is a refusal and never a stand-in value: [`Refusal::NO_CHUNK`] says that a
 //! frame has no such chunk. A frame may be empty: go from entry to entry, not from frame to frame.
@@ -28,9 +28,11 @@
 extern crate alloc;
 
 pub mod ffi;
+mod reader;
 mod refusal;
 
 use core::fmt;
+pub use reader::{Entries, Reader};
 pub use refusal::Refusal;
 
 /// The type of a chunk's elements.
@@ -99,17 +101,15 @@ pub struct Entry {
 }
 
 impl Entry {
-    fn new([frame, n, location, m, id, kind, flags]: [u64; 7]) -> Entry {
-        Entry {
-            frame,
-            n,
-            location,
-            m: m as u32,
-            id: id as u16,
-            // An entry that is answered has passed 13.
-            kind: Type::ALL[kind as usize - 1],
-            flags: flags as u8,
-        }
+    /// Of an image that opened, where every type has passed 13.
+    fn new(fields: [u64; 7]) -> Entry {
+        Entry::known(fields).expect("an entry of an open image has a known type")
+    }
+
+    /// Where its type is known.
+    fn known([frame, n, location, m, id, kind, flags]: [u64; 7]) -> Option<Entry> {
+        let kind = *Type::ALL.get((kind as usize).checked_sub(1)?)?;
+        Some(Entry { frame, n, location, m: m as u32, id: id as u16, kind, flags: flags as u8 })
     }
 }
 
@@ -121,6 +121,18 @@ pub enum Element {
     Signed(i64),
     Single(f32),
     Double(f64),
+}
+
+impl Element {
+    fn new([kind, bits]: [u64; 2]) -> Element {
+        match kind {
+            1 => Element::Unsigned(bits),
+            2 => Element::Signed(bits as i64),
+            3 => Element::Single(f32::from_bits(bits as u32)),
+            4 => Element::Double(f64::from_bits(bits)),
+            _ => unreachable!("an element has one of four kinds"),
+        }
+    }
 }
 
 impl PartialEq for Element {
@@ -248,17 +260,11 @@ pub fn chunk<'a>(image: &'a [u8], frame: u64, name: &[u8]) -> Result<&'a [u8], R
 
 /// Element `k` of a chunk, from 0.
 pub fn element(image: &[u8], frame: u64, name: &[u8], k: u64) -> Result<Element, Refusal> {
-    let [kind, bits] = answer(|out| unsafe {
+    answer(|out| unsafe {
         let (image, name) = ((image.as_ptr(), image.len()), (name.as_ptr(), name.len()));
         ffi::dialmoth_element(image.0, image.1, frame, name.0, name.1, k, out)
-    })?;
-    Ok(match kind {
-        1 => Element::Unsigned(bits),
-        2 => Element::Signed(bits as i64),
-        3 => Element::Single(f32::from_bits(bits as u32)),
-        4 => Element::Double(f64::from_bits(bits)),
-        _ => unreachable!("an element has one of four kinds"),
     })
+    .map(Element::new)
 }
 
 /// How many entries of the index the search of [`lookup`], [`chunk`] and [`element`] probes: at most

@@ -29,8 +29,8 @@ macro_rules! refusals {
 }
 
 refusals! {
-    // Opening, in this order; every call but create and turn opens first. Tests 12 to 18 run entry
-    // by entry.
+    // Opening, in this order; every call but create, turn and those that take a reader opens first.
+    // Tests 12 to 18 run entry by entry.
     1 SHORT_IMAGE "image under 256 bytes"
     2 LONG_IMAGE "image over 1,073,741,824 bytes"
     3 WRONG_MAGIC "wrong magic"
@@ -64,7 +64,10 @@ refusals! {
     29 NO_ROOM "the append would pass the image's end"
     // Turn.
     32 NOT_EXPECTED "a refused begin's state, or a length or header words 8 to 32 not as it expects"
-    // Lookup, chunk, element and probes, in this order; then n-th name and entry.
+    // Reader calls but its opening, first; chunk and element also after 42.
+    33 NOT_FITTING "the reader, or a chunk found by it, does not fit the image"
+    // Lookup, chunk, element and probes, find and newest, in this order; id has 41 alone. Then n-th
+    // name and entry.
     40 NO_FRAME "frame not below the number of frames"
     41 NO_NAME "name not listed"
     42 NO_CHUNK "no such chunk in the frame"

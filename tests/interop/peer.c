@@ -10,7 +10,8 @@
  *                                            "entry frame N location M id type flags start length",
  *                                            start and length as the chunk is handed out, then its
  *                                            elements as kind:bits; status 1 where a lookup finds
- *                                            another entry, or a chunk that no entry tells of
+ *                                            another entry, or a chunk that no entry tells of, or where
+ *                                            a reader answers otherwise
  */
 #include "dialmoth.h"
 
@@ -127,20 +128,52 @@ static int finds_no_more(struct bytes image, const uint64_t counts[3], const uin
     return dialmoth_lookup(image.start, image.length, counts[0], start, name[1], found) == 40;
 }
 
+/* Whether a reader has the n-th name at this place, by its id and by its number. */
+static int reads_name(const uint64_t *reader, struct bytes image, uint64_t n, const uint64_t place[2])
+{
+    uint64_t same[2], id[1];
+
+    return dialmoth_reader_name(reader, image.start, image.length, n, same) == 0
+           && memcmp(same, place, sizeof same) == 0
+           && dialmoth_reader_id(reader, image.start, image.length, image.start + place[0], place[1], id) == 0
+           && id[0] == n;
+}
+
+/* Whether it has this as the n-th entry, and finds it by name, by id and as the newest of its frame. */
+static int reads_entry(const uint64_t *reader, struct bytes image, uint64_t n, const uint64_t *entry,
+                       const uint64_t name[2])
+{
+    uint64_t found[4][DIALMOTH_ENTRY_FIELDS], frame = entry[DIALMOTH_ENTRY_FRAME];
+    uint64_t id = entry[DIALMOTH_ENTRY_ID];
+
+    return dialmoth_reader_entry(reader, image.start, image.length, n, found[0]) == 0
+           && dialmoth_reader_lookup(reader, image.start, image.length, frame, image.start + name[0],
+                                     name[1], found[1]) == 0
+           && dialmoth_reader_find(reader, image.start, image.length, frame, id, found[2]) == 0
+           && dialmoth_reader_newest(reader, image.start, image.length, frame, id, found[3]) == 0
+           && memcmp(found[0], entry, sizeof found[0]) == 0 && memcmp(found[1], entry, sizeof found[1]) == 0
+           && memcmp(found[2], entry, sizeof found[2]) == 0 && memcmp(found[3], entry, sizeof found[3]) == 0;
+}
+
 static int list(const char *path)
 {
     struct bytes image = load(path);
     uint64_t counts[3], place[2], entry[DIALMOTH_ENTRY_FIELDS], found[DIALMOTH_ENTRY_FIELDS];
+    uint64_t reader[DIALMOTH_READER_WORDS], same[2];
     uint64_t refused = dialmoth_open(image.start, image.length, counts);
     uint64_t n, k, chunks = 0;
 
+    if (dialmoth_reader_open(image.start, image.length, reader) != refused)
+        return 1;
     printf("%" PRIu64 "\n", refused);
     if (refused != 0)
         return 0;
+    if (memcmp(reader, counts, sizeof counts) != 0)
+        return 1;
     printf("%" PRIu64 " %" PRIu64 " %" PRIu64 "\n", counts[0], counts[1], counts[2]);
     for (n = 0; n < counts[1]; n++) {
         if (dialmoth_name(image.start, image.length, n, place) != 0
-            || !finds_no_more(image, counts, place, &chunks))
+            || !finds_no_more(image, counts, place, &chunks) || !reads_name(reader, image, n, place))
             return 1;
         printf("name ");
         for (k = 0; k < place[1]; k++)
@@ -157,21 +190,26 @@ static int list(const char *path)
         name = image.start + place[0];
         frame = entry[DIALMOTH_ENTRY_FRAME];
         if (dialmoth_lookup(image.start, image.length, frame, name, place[1], found) != 0
-            || memcmp(entry, found, sizeof entry) != 0)
+            || memcmp(entry, found, sizeof entry) != 0 || !reads_entry(reader, image, n, entry, place))
             return 1;
         printf("entry");
         for (k = 0; k < DIALMOTH_ENTRY_FIELDS; k++)
             printf(" %" PRIu64, entry[k]);
         {
             uint64_t chunk[2], element[2];
-            if (dialmoth_chunk(image.start, image.length, frame, name, place[1], chunk) != 0)
+            if (dialmoth_chunk(image.start, image.length, frame, name, place[1], chunk) != 0
+                || dialmoth_reader_chunk(reader, image.start, image.length, frame, name, place[1], same) != 0
+                || memcmp(chunk, same, sizeof same) != 0)
                 return 1;
             printf(" %" PRIu64 " %" PRIu64, chunk[0], chunk[1]);
             for (k = 0; k < 64; k++) {
                 refused = dialmoth_element(image.start, image.length, frame, name, place[1], k, element);
+                if (dialmoth_reader_element(reader, image.start, image.length, frame, name, place[1], k, same)
+                    != refused)
+                    return 1;
                 if (refused == 43)
                     break;
-                if (refused != 0)
+                if (refused != 0 || memcmp(element, same, sizeof same) != 0)
                     return 1;
                 printf(" %" PRIu64 ":%" PRIu64, element[0], element[1]);
             }

@@ -1,14 +1,17 @@
 // The C interface. A slice is a pointer and its length, an array of fixed length a pointer. Each call answers its number,
 // 0 for none; its values go to out, which a refusal leaves as it was. Only probes, append, begin and turn set theirs at every
-// call.
+// call. A reader is eight words lent by the caller.
 use gsd_append::State;
 use gsd_append::append;
 use gsd_create::create;
+use gsd_format::Reader;
 use gsd_out::listed_number;
 use gsd_out::put_counts;
 use gsd_out::put_element;
 use gsd_out::put_entry;
+use gsd_out::put_id;
 use gsd_out::put_part;
+use gsd_out::put_reader;
 use gsd_read::chunk_place;
 use gsd_read::element;
 use gsd_read::entry;
@@ -16,18 +19,28 @@ use gsd_read::lookup;
 use gsd_read::name;
 use gsd_read::open;
 use gsd_read::search;
+use gsd_reader::chunk_place_by;
+use gsd_reader::element_by;
+use gsd_reader::entry_by;
+use gsd_reader::find_by;
+use gsd_reader::id_by;
+use gsd_reader::lookup_by;
+use gsd_reader::name_by;
+use gsd_reader::newest_by;
+use gsd_reader::open_reader;
 use gsd_states::STATE_WORDS;
 ghost use mathlib.Core.Path.{_≡_};
 ghost use mathlib.Core.List.{[], _∷_};
 ghost use Rattle.gsd_format.specs.Opening.{opening};
 ghost use Rattle.gsd_format.specs.Lookup.{nthEntry, nthName, lookup, chunkPlace};
 ghost use Rattle.gsd_format.specs.Elements.{element};
+ghost use Rattle.gsd_format.specs.Readers.{reading, nameBy, entryBy, lookupBy, chunkPlaceBy, elementBy, idBy, findBy, newestBy};
 ghost use Rattle.gsd_format.specs.Create.{createNumber, created};
-ghost use Rattle.gsd_format.specs.Answers.{openingNumber, listedNumber, placeNumber, elementNumber};
+ghost use Rattle.gsd_format.specs.Answers.{openingNumber, listedNumber, placeNumber, elementNumber, readingNumber, identNumber};
 ghost use Rattle.gsd_stores.specs.Append.{appendTest, appended};
-ghost use Rattle.gsd_out.specs.Out.{openingOut, listedOut, placeOut, elementOut};
+ghost use Rattle.gsd_out.specs.Out.{openingOut, listedOut, placeOut, elementOut, readingOut, identOut};
 ghost use Rattle.gsd_append.specs.Turns.{turnImage};
-ghost use Rattle.dialmoth.specs.Out.{probesOut, appendOut, beginOut, BeginState, turnOf};
+ghost use Rattle.dialmoth.specs.Out.{probesOut, readerIn, appendOut, beginOut, BeginState, turnOf};
 
 // Frames, names, entries.
 #[no_mangle]
@@ -99,6 +112,152 @@ pub extern "C" fn dialmoth_probes(image: &[u8], frame: u64, name: &[u8], out: &m
     let answer = s.answer;
     *out = [s.probes];
     listed_number(answer)
+}
+
+// The reader's words.
+#[no_mangle]
+pub extern "C" fn dialmoth_reader_open(image: &[u8], reader: &mut [u64; 8]) -> u64
+    ensures number { λ r. ⌜ r ≡ readingNumber (reading (now (image .entry))) ⌝ }
+    ensures out { λ _. ⌜ now (reader .exit) ≡ readingOut (reading (now (image .entry))) (now (reader .entry)) ⌝ }
+{
+    put_reader(open_reader(image), reader)
+}
+
+// The words as a reader; the eighth is not looked at.
+fn reader_in(words: &[u64; 8]) -> Reader
+    ensures { λ r. ⌜ r ≡ readerIn (now (words .entry)) ⌝ }
+{
+    Reader {
+        frames: words[0],
+        names: words[1],
+        entries: words[2],
+        index: words[3],
+        namelist: words[4],
+        size: words[5],
+        version: words[6],
+    }
+}
+
+// Start, length.
+#[no_mangle]
+pub extern "C" fn dialmoth_reader_name(
+    reader: &[u64; 8],
+    image: &[u8],
+    n: u64,
+    out: &mut [u64; 2],
+) -> u64
+    ensures number { λ r. ⌜ r ≡ placeNumber (nameBy (readerIn (now (reader .entry))) (now (image .entry)) n) ⌝ }
+    ensures out { λ _. ⌜ now (out .exit) ≡ placeOut (nameBy (readerIn (now (reader .entry))) (now (image .entry)) n) (now (out .entry)) ⌝ }
+{
+    put_part(name_by(reader_in(reader), image, n), out)
+}
+
+// As dialmoth_entry.
+#[no_mangle]
+pub extern "C" fn dialmoth_reader_entry(
+    reader: &[u64; 8],
+    image: &[u8],
+    n: u64,
+    out: &mut [u64; 7],
+) -> u64
+    ensures number { λ r. ⌜ r ≡ listedNumber (entryBy (readerIn (now (reader .entry))) (now (image .entry)) n) ⌝ }
+    ensures out { λ _. ⌜ now (out .exit) ≡ listedOut (entryBy (readerIn (now (reader .entry))) (now (image .entry)) n) (now (out .entry)) ⌝ }
+{
+    put_entry(entry_by(reader_in(reader), image, n), out)
+}
+
+// As dialmoth_entry.
+#[no_mangle]
+pub extern "C" fn dialmoth_reader_lookup(
+    reader: &[u64; 8],
+    image: &[u8],
+    frame: u64,
+    name: &[u8],
+    out: &mut [u64; 7],
+) -> u64
+    ensures number { λ r. ⌜ r ≡ listedNumber (lookupBy (readerIn (now (reader .entry))) (now (image .entry)) frame (now (name .entry))) ⌝ }
+    ensures out { λ _. ⌜ now (out .exit)
+        ≡ listedOut (lookupBy (readerIn (now (reader .entry))) (now (image .entry)) frame (now (name .entry))) (now (out .entry)) ⌝ }
+{
+    put_entry(lookup_by(reader_in(reader), image, frame, name), out)
+}
+
+// Start, length.
+#[no_mangle]
+pub extern "C" fn dialmoth_reader_chunk(
+    reader: &[u64; 8],
+    image: &[u8],
+    frame: u64,
+    name: &[u8],
+    out: &mut [u64; 2],
+) -> u64
+    ensures number { λ r. ⌜ r ≡ placeNumber (chunkPlaceBy (readerIn (now (reader .entry))) (now (image .entry)) frame (now (name .entry))) ⌝ }
+    ensures out { λ _. ⌜ now (out .exit)
+        ≡ placeOut (chunkPlaceBy (readerIn (now (reader .entry))) (now (image .entry)) frame (now (name .entry))) (now (out .entry)) ⌝ }
+{
+    put_part(chunk_place_by(reader_in(reader), image, frame, name), out)
+}
+
+// Kind, bits.
+#[no_mangle]
+pub extern "C" fn dialmoth_reader_element(
+    reader: &[u64; 8],
+    image: &[u8],
+    frame: u64,
+    name: &[u8],
+    k: u64,
+    out: &mut [u64; 2],
+) -> u64
+    ensures number { λ r. ⌜ r ≡ elementNumber (elementBy (readerIn (now (reader .entry))) (now (image .entry)) frame (now (name .entry)) k) ⌝ }
+    ensures out { λ _. ⌜ now (out .exit)
+        ≡ elementOut (elementBy (readerIn (now (reader .entry))) (now (image .entry)) frame (now (name .entry)) k) (now (out .entry)) ⌝ }
+{
+    put_element(element_by(reader_in(reader), image, frame, name, k), out)
+}
+
+// The id.
+#[no_mangle]
+pub extern "C" fn dialmoth_reader_id(
+    reader: &[u64; 8],
+    image: &[u8],
+    name: &[u8],
+    out: &mut [u64; 1],
+) -> u64
+    ensures number { λ r. ⌜ r ≡ identNumber (idBy (readerIn (now (reader .entry))) (now (image .entry)) (now (name .entry))) ⌝ }
+    ensures out { λ _. ⌜ now (out .exit)
+        ≡ identOut (idBy (readerIn (now (reader .entry))) (now (image .entry)) (now (name .entry))) (now (out .entry)) ⌝ }
+{
+    put_id(id_by(reader_in(reader), image, name), out)
+}
+
+// As dialmoth_entry.
+#[no_mangle]
+pub extern "C" fn dialmoth_reader_find(
+    reader: &[u64; 8],
+    image: &[u8],
+    frame: u64,
+    id: u64,
+    out: &mut [u64; 7],
+) -> u64
+    ensures number { λ r. ⌜ r ≡ listedNumber (findBy (readerIn (now (reader .entry))) (now (image .entry)) frame id) ⌝ }
+    ensures out { λ _. ⌜ now (out .exit) ≡ listedOut (findBy (readerIn (now (reader .entry))) (now (image .entry)) frame id) (now (out .entry)) ⌝ }
+{
+    put_entry(find_by(reader_in(reader), image, frame, id), out)
+}
+
+// As dialmoth_entry, of the newest frame at or below.
+#[no_mangle]
+pub extern "C" fn dialmoth_reader_newest(
+    reader: &[u64; 8],
+    image: &[u8],
+    frame: u64,
+    id: u64,
+    out: &mut [u64; 7],
+) -> u64
+    ensures number { λ r. ⌜ r ≡ listedNumber (newestBy (readerIn (now (reader .entry))) (now (image .entry)) frame id) ⌝ }
+    ensures out { λ _. ⌜ now (out .exit) ≡ listedOut (newestBy (readerIn (now (reader .entry))) (now (image .entry)) frame id) (now (out .entry)) ⌝ }
+{
+    put_entry(newest_by(reader_in(reader), image, frame, id), out)
 }
 
 // A refusal changes no byte.

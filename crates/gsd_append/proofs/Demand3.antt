@@ -1,5 +1,5 @@
 -- Demand 3 about the append of this crate: from any image that opens, over any appends one after the other, each made by the joined
--- call or by a beginning and its turns.
+-- call or by a beginning and its turns. And that a reader is a snapshot over them.
 use Prim.Native.Nat.{ℕ, _≤_}
 use mathlib.Core.Path.{_≡_, refl, sym, _∙_, ap, subst}
 use mathlib.Core.Bool.{true}
@@ -7,14 +7,19 @@ use mathlib.Core.List.{List, [], _∷_}
 use native.Mathlib.Omega.{arith}
 use lib.ListN.{length}
 use borrow.Author.Tests.{eqb-true, leb-true, eq-eqb, le-leb}
+use Rattle.gsd_format.specs.declared.Reader.{Reader}
+use Rattle.gsd_format.specs.declared.Reading.{Reading}
 use Rattle.gsd_format.specs.Opening.{verdict}
+use Rattle.gsd_format.specs.Readers.{reading, Reads}
 use Rattle.gsd_format.proofs.Refusals.{both-true, both-of}
 use Rattle.gsd_stores.specs.declared.Appended.{Appended}
 use Rattle.gsd_stores.specs.Append.{storesFor, appendAnswer}
-use Rattle.gsd_stores.specs.Runs.{Call, storesMade, afterStores, Moment, during, Follows, inCall, afterCall, afterRun, lastStoreMade}
+use Rattle.gsd_stores.specs.Runs.{Call, storesMade, afterStores, Moment, during, Follows, fromStart, inCall, afterCall, afterRun, lastStoreMade}
 use Rattle.gsd_stores.specs.Demand3.{Demand3}
 use Rattle.gsd_stores.proofs.Limits.{stopped}
+use Rattle.gsd_stores.proofs.Runs.{end-moment}
 use Rattle.gsd_stores.proofs.Demand3.{demand3}
+use Rattle.gsd_stores.proofs.Snapshot.{snapshot}
 use Rattle.gsd_append.proofs.Calls.{Called, call-answers, call-leaves, InTurns, turns-append}
 
 -- An append of a run, on the image x: by either way it answered r and left y. In turns the premise is part of `InTurns`: from the
@@ -49,6 +54,10 @@ pub record Kept (x : List ℕ) (cs : List Call) (z : List ℕ) : Type 0 where
 
 pub append-keeps : {x z : List ℕ} {cs : List Call} → verdict x ≡ 0 → Calls x cs z → Kept x cs z
 append-keeps {x} {cs = cs} o q = record { left = calls-run q; demand = demand3 x cs o }
+
+-- a reader that was opened before them answers after them as the calls did then; of two moments of the run gsd_stores says the same
+pub append-snapshot : {x z : List ℕ} {cs : List Call} → verdict x ≡ 0 → Calls x cs z → (r : Reader) → reading x ≡ Reading.Ready r → Reads r z x
+append-snapshot {x} {cs = cs} o q r h = rw (calls-run q) (snapshot x cs o (fromStart (end-moment x cs)) r h)
 
 -- A moment of the run, in terms of calls: what the append with a smaller limit would have left, so also what a beginning has left with
 -- the turns made so far. Of two such the one with the greater limit follows

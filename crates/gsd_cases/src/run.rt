@@ -1,7 +1,9 @@
 // A table run line by line, on one image, the copy of it that is kept, one sheet, one state of an append and the copy of it
-// that is held; what a line asks is answered by a look at the image or by a call.
+// that is held, one reader and the copy of it that is noted; what a line asks is answered by a look at the image or by a call.
 use crate::ask::ask;
 use crate::call::call;
+use crate::readers::ask_by;
+use crate::readers::note;
 use crate::turns::hold;
 use gsd_lines::Line;
 use gsd_lines::line_end;
@@ -25,6 +27,7 @@ fn number_of(
     sheet: &[u8],
     len: u64,
     state: &mut [u64; STATE_WORDS],
+    reader: &mut [u64; 8],
     one: &mut [u64; 1],
     two: &mut [u64; 2],
     three: &mut [u64; 3],
@@ -38,7 +41,10 @@ fn number_of(
     if k < words::NAME {
         return call(k, n, table, image, len, sheet, state, one, two, three);
     }
-    ask(k, n, table, part(image, len), one, two, three, seven)
+    if k < words::READER {
+        return ask(k, n, table, part(image, len), one, two, three, seven);
+    }
+    ask_by(k, n, table, part(image, len), reader, one, two, seven)
 }
 
 fn ask_line(
@@ -48,6 +54,7 @@ fn ask_line(
     kept: &[u8; 32768],
     sheet: &[u8],
     state: &mut [u64; STATE_WORDS],
+    reader: &mut [u64; 8],
     s: State,
     path: &[u8],
 ) -> State {
@@ -65,12 +72,22 @@ fn ask_line(
         sheet,
         s.len,
         state,
+        reader,
         &mut one,
         &mut two,
         &mut three,
         &mut seven,
     );
-    let end = tally::answer(line.word, number, &one, &two, &three, &seven, &mut text);
+    let end = tally::answer(
+        line.word,
+        number,
+        &one,
+        &two,
+        &three,
+        &seven,
+        reader,
+        &mut text,
+    );
     tally::compared(s, path, &text, end, part(table, line.answer))
 }
 
@@ -84,6 +101,8 @@ fn run_words(
     sheet: &mut [u8; 32768],
     state: &mut [u64; STATE_WORDS],
     held: &mut [u64; STATE_WORDS],
+    reader: &mut [u64; 8],
+    noted: &mut [u64; 8],
     s: State,
     path: &[u8],
 ) -> State
@@ -95,9 +114,20 @@ fn run_words(
     }
     if line.word < words::END {
         hold(line.word, state, held);
+        note(line.word, line.numbers, reader, noted);
         return make_line(line, table, image, kept, sheet, s, path);
     }
-    ask_line(line, table, image, kept, part(sheet, s.end), state, s, path)
+    ask_line(
+        line,
+        table,
+        image,
+        kept,
+        part(sheet, s.end),
+        state,
+        reader,
+        s,
+        path,
+    )
 }
 
 fn run_line(
@@ -109,6 +139,8 @@ fn run_line(
     sheet: &mut [u8; 32768],
     state: &mut [u64; STATE_WORDS],
     held: &mut [u64; STATE_WORDS],
+    reader: &mut [u64; 8],
+    noted: &mut [u64; 8],
     s: State,
     path: &[u8],
 ) -> State
@@ -122,7 +154,20 @@ fn run_line(
     match table[from] {
         b'#' => tally::begun(s, path),
         b'-' => s,
-        _ => run_words(table, from, to, image, kept, sheet, state, held, s, path),
+        _ => run_words(
+            table,
+            from,
+            to,
+            image,
+            kept,
+            sheet,
+            state,
+            held,
+            reader,
+            noted,
+            s,
+            path,
+        ),
     }
 }
 
@@ -135,6 +180,8 @@ pub fn run(table: &mut [u8], n: usize, path: &[u8]) -> State
     let mut sheet = [0u8; 32768];
     let mut state = [0u64; STATE_WORDS];
     let mut held = [0u64; STATE_WORDS];
+    let mut reader = [0u64; 8];
+    let mut noted = [0u64; 8];
     let mut s = tally::start();
     let mut from = 0;
     while from < n {
@@ -148,6 +195,8 @@ pub fn run(table: &mut [u8], n: usize, path: &[u8]) -> State
             &mut sheet,
             &mut state,
             &mut held,
+            &mut reader,
+            &mut noted,
             s,
             path,
         );

@@ -19,3 +19,6 @@ pub mod Fresh
 pub mod Elements
 pub mod Calls
 pub mod Probes
+pub mod Newest
+pub mod Readers
+pub mod ReaderNumbers

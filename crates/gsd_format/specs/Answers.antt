@@ -8,6 +8,9 @@ use Rattle.gsd_format.specs.declared.Opening.{Opening}
 use Rattle.gsd_format.specs.declared.Listed.{Listed}
 use Rattle.gsd_format.specs.declared.Place.{Place}
 use Rattle.gsd_format.specs.declared.Element.{Element}
+use Rattle.gsd_format.specs.declared.Reader.{Reader}
+use Rattle.gsd_format.specs.declared.Reading.{Reading}
+use Rattle.gsd_format.specs.declared.Ident.{Ident}
 
 unfoldable pub openingNumber : Opening → ℕ
 openingNumber (Opening.Open c) = 0
@@ -59,3 +62,23 @@ elementValues (Element.Signed z) = 2 ∷ bits64 z ∷ []
 elementValues (Element.Single x bits) = 3 ∷ bits ∷ []
 elementValues (Element.Double x bits) = 4 ∷ bits ∷ []
 elementValues (Element.Refused n) = []
+
+unfoldable pub readingNumber : Reading → ℕ
+readingNumber (Reading.Ready r) = 0
+readingNumber (Reading.Refused n) = n
+
+-- a reader's eight words; the last one is spare
+abbrev pub readerWords : Reader → List ℕ
+readerWords r = r .frames ∷ r .names ∷ r .entries ∷ r .index ∷ r .namelist ∷ r .size ∷ r .version ∷ 0 ∷ []
+
+unfoldable pub readingValues : Reading → List ℕ
+readingValues (Reading.Ready r) = readerWords r
+readingValues (Reading.Refused n) = []
+
+unfoldable pub identNumber : Ident → ℕ
+identNumber (Ident.Is i) = 0
+identNumber (Ident.Refused n) = n
+
+unfoldable pub identValues : Ident → List ℕ
+identValues (Ident.Is i) = i ∷ []
+identValues (Ident.Refused n) = []

@@ -11,6 +11,7 @@ pub mod Opening
 pub mod Lookup
 pub mod Search
 pub mod Elements
+pub mod Readers
 pub mod Create
 pub mod Listing
 pub mod Answers

@@ -1,6 +1,6 @@
 -- The name list: in 2.x names follow one another from the start of the name block, each closed by a zero byte; in 1.0 each has a
 -- segment of its own. It ends at the first name that would start with zero, or at the end of the block. The n-th name has id n.
-use Prim.Native.Nat.{ℕ, zero, suc, _+_, _*_, _-_, _≤_, _<_}
+use Prim.Native.Nat.{ℕ, zero, suc, _+_, _*_, _-_, _/_, _≤_, _<_}
 use mathlib.Core.List.{List, [], _∷_, _++_, map}
 use mathlib.Core.Bool.{true, false}
 use lib.ListN.{getD, length}
@@ -60,6 +60,14 @@ namesAt img at n = map (bytesOf img) (partsAt img at at n)
 unfoldable pub flat : List (List ℕ) → List ℕ
 flat [] = []
 flat (n ∷ ns) = n ++ 0 ∷ flat ns
+
+-- how many bytes a list takes: in 1.0 all of each name's segment
+unfoldable pub listSize : ℕ → List (List ℕ) → ℕ
+listSize version names = elim (v10 version) [ true ↦ segmentSize * length names | false ↦ length (flat names) ]
+
+-- where the names of n bytes from at lie, each without its zero; a name or segment that these do not hold whole is none
+unfoldable pub listParts : ℕ → List ℕ → ℕ → ℕ → List Part
+listParts version img at n = elim (v10 version) [ true ↦ segmentsAt img at (n / segmentSize) | false ↦ partsAt img at at n ]
 
 -- the place of a name in the list, that is its id; the list's length if it is not there
 unfoldable pub indexOf : List ℕ → List (List ℕ) → ℕ

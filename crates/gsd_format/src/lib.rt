@@ -1,5 +1,5 @@
 // The answers of the library's calls. What each call answers is defined in specs/, in the order of GSD's own
-// description: bytes, header, names, entries, opening, lookup, elements, fresh images, the listing.
+// description: bytes, header, names, entries, opening, lookup, elements, readers, fresh images, the listing.
 
 // An index entry: all 32 bytes of it. The format's N and M are n and m, its type is kind. The location is an i64 in
 // the file; in a listed entry of an image that opens it is never negative.
@@ -66,5 +66,29 @@ pub enum Element {
     Signed(i64),
     Single { value: f32, bits: u32 },
     Double { value: f64, bits: u64 },
+    Refused(u64),
+}
+
+// What an opened image is read by without its tests: its counts, where its entries and its names begin, how many bytes the
+// list of names takes, and its version. Any numbers may stand here.
+pub struct Reader {
+    pub frames: u64,
+    pub names: u64,
+    pub entries: u64,
+    pub index: u64,
+    pub namelist: u64,
+    pub size: u64,
+    pub version: u64,
+}
+
+// What opening a reader answers.
+pub enum Reading {
+    Ready(Reader),
+    Refused(u64),
+}
+
+// What asking for a name's id answers.
+pub enum Ident {
+    Is(u64),
     Refused(u64),
 }

@@ -1,7 +1,7 @@
 // The words of a table. A line's form is its word with 0 for each number, ' for each text and = before an answer: a line
 // "lookup 0 'probe' = 41" has the form "lookup0'=".
 
-const FORMS: [u8; 448] = *b"\
+const FORMS: [u8; 640] = *b"\
 image0          \
 use0            \
 bytes0'         \
@@ -15,6 +15,9 @@ patch00         \
 cut0            \
 hold            \
 held            \
+reader00        \
+note            \
+noted           \
 end=            \
 word0=          \
 has0'=          \
@@ -30,10 +33,19 @@ open=           \
 entry0=         \
 lookup0'=       \
 probes0'=       \
+reader=         \
+byname0=        \
+bychunk0'=      \
+byelement0'0=   \
+byentry0=       \
+bylookup0'=     \
+byid'=          \
+byfind00=       \
+bynewest00=     \
 ";
 
-// Their places in this list: the words that make an image or a sheet, or hold a state; those that look at the image, make or
-// change it, and read it.
+// Their places in this list: the words that make an image or a sheet, hold a state or set a reader; those that look at the image,
+// make or change it, read it, and read it by the reader.
 pub const IMAGE: usize = 0;
 
 pub const USE: usize = 1;
@@ -60,37 +72,61 @@ pub const HOLD: usize = 11;
 
 pub const HELD: usize = 12;
 
-pub const END: usize = 13;
+pub const READER_WORD: usize = 13;
 
-pub const WORD_AT: usize = 14;
+pub const NOTE: usize = 14;
 
-pub const HAS: usize = 15;
+pub const NOTED: usize = 15;
 
-pub const SAME: usize = 16;
+pub const END: usize = 16;
 
-pub const CREATE: usize = 17;
+pub const WORD_AT: usize = 17;
 
-pub const APPEND: usize = 18;
+pub const HAS: usize = 18;
 
-pub const BEGIN: usize = 19;
+pub const SAME: usize = 19;
 
-pub const TURN: usize = 20;
+pub const CREATE: usize = 20;
 
-pub const NAME: usize = 21;
+pub const APPEND: usize = 21;
 
-pub const CHUNK: usize = 22;
+pub const BEGIN: usize = 22;
 
-pub const ELEMENT: usize = 23;
+pub const TURN: usize = 23;
 
-pub const OPEN: usize = 24;
+pub const NAME: usize = 24;
 
-pub const ENTRY: usize = 25;
+pub const CHUNK: usize = 25;
 
-pub const LOOKUP: usize = 26;
+pub const ELEMENT: usize = 26;
 
-pub const PROBES: usize = 27;
+pub const OPEN: usize = 27;
 
-pub const UNKNOWN: usize = 28;
+pub const ENTRY: usize = 28;
+
+pub const LOOKUP: usize = 29;
+
+pub const PROBES: usize = 30;
+
+pub const READER: usize = 31;
+
+pub const BY_NAME: usize = 32;
+
+pub const BY_CHUNK: usize = 33;
+
+pub const BY_ELEMENT: usize = 34;
+
+pub const BY_ENTRY: usize = 35;
+
+pub const BY_LOOKUP: usize = 36;
+
+pub const BY_ID: usize = 37;
+
+pub const BY_FIND: usize = 38;
+
+pub const BY_NEWEST: usize = 39;
+
+pub const UNKNOWN: usize = 40;
 
 // The place of a form in the list.
 pub fn known(form: &[u8; 16]) -> usize {

@@ -15,14 +15,14 @@ use Rattle.gsd_stores.specs.Steps.{moveNames, moveIndex, storeData, storeNames,
 use Rattle.gsd_stores.specs.Steps.{nameBlock, indexBlock}
 use Rattle.gsd_stores.specs.Demand3.{noRow}
 use Rattle.gsd_stores.proofs.Sheet.{rows-count, name-length, name-text, name-inside}
-use Rattle.gsd_stores.proofs.View.{Is, Base, base-start, room-more, Stage}
+use Rattle.gsd_stores.proofs.View.{Is, Base, base-start, Stage}
 use Rattle.gsd_stores.proofs.Plan.{entries-count}
 use Rattle.gsd_stores.proofs.Good.{roomy, named, ready, Good}
 use Rattle.gsd_stores.proofs.Move.{names-step, index-step}
 use Rattle.gsd_stores.proofs.Valid.{Ready as Accepted}
 use Rattle.gsd_stores.proofs.Moments.{ready-good}
 use Rattle.gsd_stores.proofs.Clear.{store-data}
-use Rattle.gsd_stores.proofs.Whole.{data-fits, room-before, room-roomy, room-names, block-even}
+use Rattle.gsd_stores.proofs.Whole.{data-fits, room-roomy, names-room, index-room, block-even}
 use Rattle.gsd_extents.specs.Exec.{tasks, storesOf}
 use Rattle.gsd_steps.specs.Numbers.{rowsIn, freshIn}
 use Rattle.gsd_matched.specs.Matches.{NumbersMatch, NameMatch, Matches}
@@ -55,7 +55,7 @@ module _ {x : List ℕ} {v : View} {rs : List Row} {d : Plan} (r : Accepted v rs
   unfolding moveNames
   names-moved =
       block-moved sheet (nameMove p) (d .namesMove) (flat (v .names)) (names-move r is m) (names-octets is o) (λ img s. s .base .is .names .each)
-      (names-step {x₀ = x} {W = AnyStore} (d .namesMove) (namesStart d) (d .segments) (room-more (namesStart d) (omega arith) (room-before g))
+      (names-step {x₀ = x} {W = AnyStore} (d .namesMove) (namesStart d) (d .segments) (names-room g)
       (g .moreSegments) (names-end r) (λ l n a b e f s t. tt) .final)
 
   index-moved : Makes sheet (Stored x d (named v d)) (Stored x d (ready v d)) (tab (moveExtent (indexMove p)) 0 4) (moveIndex x v d)
@@ -67,7 +67,7 @@ module _ {x : List ℕ} {v : View} {rs : List Row} {d : Plan} (r : Accepted v rs
       block-moved sheet (indexMove p) (d .indexMoves) (entriesIn x v) (index-move r is m)
       (text-octets x (v .layout .index) (entriesIn x v) o (part-text x (v .layout .index) size inside))
       (λ img s k l. s .base .raw k (omega arith) ∙ ap (λ c. getD x (c .index + k) 0) (is .layout) ∙ sym (part-at x (v .layout .index) size k (omega arith)))
-      (index-step {x₀ = x} {W = AnyStore} (d .indexMoves) (indexStart d) (d .slots) (room-more (indexStart d) (omega arith) (room-names g))
+      (index-step {x₀ = x} {W = AnyStore} (d .indexMoves) (indexStart d) (d .slots) (index-room g)
       (v .layout .index) (ap (λ l. l .index) (is .layout)) inside (g .moreSlots) (index-end r) (λ l n a b e f s t. tt) .final)
 
 -- The whole append

@@ -12,3 +12,4 @@ pub use list::name_list;
 pub use list::name_part;
 pub use number::names_number;
 pub use search::name_id;
+pub use search::same_name;

@@ -8,7 +8,7 @@ ghost use Rattle.gsd_format.specs.Names.{indexOf};
 ghost use Rattle.gsd_names.specs.NameLists.{namesIn, Spans};
 
 // Names often have their front in common, so the last byte is looked at first.
-pub(crate) fn same_name(a: &[u8], b: &[u8]) -> bool
+pub fn same_name(a: &[u8], b: &[u8]) -> bool
     ensures { λ r. ⌜ r ≡ same (now (a .entry)) (now (b .entry)) ⌝ }
 {
     let n = a.len();

@@ -42,7 +42,7 @@ fn text_open(image: &[u8]) -> bool
 }
 
 // Does an image of this version open?
-fn supported(version: u64) -> bool
+pub fn supported(version: u64) -> bool
     ensures { λ r. ⌜ r ≡ supported version ⌝ }
 {
     if is_10(version) {

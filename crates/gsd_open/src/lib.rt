@@ -6,6 +6,7 @@ mod refusal;
 mod stretch;
 mod survey;
 
+pub use header::supported;
 pub use index::chunk_bytes;
 pub use index::entry_at;
 pub use survey::Survey;

@@ -5,7 +5,10 @@ use Rattle.gsd_format.specs.declared.Opening.{Opening}
 use Rattle.gsd_format.specs.declared.Listed.{Listed}
 use Rattle.gsd_format.specs.declared.Place.{Place}
 use Rattle.gsd_format.specs.declared.Element.{Element}
+use Rattle.gsd_format.specs.declared.Reading.{Reading}
+use Rattle.gsd_format.specs.declared.Ident.{Ident}
 use Rattle.gsd_format.specs.Answers.{openingNumber, openingValues, listedNumber, listedValues, placeNumber, placeValues, elementNumber, elementValues}
+use Rattle.gsd_format.specs.Answers.{readingNumber, readingValues, identNumber, identValues}
 
 unfoldable pub answered : ℕ → List ℕ → List ℕ → List ℕ
 answered zero values before = values
@@ -22,3 +25,9 @@ placeOut a = answered (placeNumber a) (placeValues a)
 
 abbrev pub elementOut : Element → List ℕ → List ℕ
 elementOut a = answered (elementNumber a) (elementValues a)
+
+abbrev pub readingOut : Reading → List ℕ → List ℕ
+readingOut a = answered (readingNumber a) (readingValues a)
+
+abbrev pub identOut : Ident → List ℕ → List ℕ
+identOut a = answered (identNumber a) (identValues a)

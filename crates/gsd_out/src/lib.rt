@@ -1,16 +1,20 @@
 // Leaf code of the C interface: an answer's values go to a caller's out array, and nothing of a refusal. The number is
 // answered. A refusal's is never 0, and callers show that.
 use gsd_format::Element;
+use gsd_format::Ident;
 use gsd_format::Listed;
 use gsd_format::Opening;
 use gsd_format::Place;
+use gsd_format::Reading;
 ghost use mathlib.Core.Path.{_≡_};
 ghost use Rattle.gsd_format.specs.declared.Opening.{Opening};
 ghost use Rattle.gsd_format.specs.declared.Listed.{Listed};
 ghost use Rattle.gsd_format.specs.declared.Place.{Place};
 ghost use Rattle.gsd_format.specs.declared.Element.{Element};
-ghost use Rattle.gsd_format.specs.Answers.{openingNumber, listedNumber, placeNumber, elementNumber, bits64};
-ghost use Rattle.gsd_out.specs.Out.{openingOut, listedOut, placeOut, elementOut};
+ghost use Rattle.gsd_format.specs.declared.Reading.{Reading};
+ghost use Rattle.gsd_format.specs.declared.Ident.{Ident};
+ghost use Rattle.gsd_format.specs.Answers.{openingNumber, listedNumber, placeNumber, elementNumber, bits64, readingNumber, identNumber};
+ghost use Rattle.gsd_out.specs.Out.{openingOut, listedOut, placeOut, elementOut, readingOut, identOut};
 
 // Frames, names, entries.
 pub fn put_counts(answer: Opening, out: &mut [u64; 3]) -> u64
@@ -109,5 +113,44 @@ pub fn put_element(answer: Element, out: &mut [u64; 2]) -> u64
             0
         }
         Element::Refused(number) => number,
+    }
+}
+
+// The words of a reader, the last one spare.
+pub fn put_reader(answer: Reading, reader: &mut [u64; 8]) -> u64
+    requires { ⌜ (answer ≡ Reading.Refused 0 → ⊥) ⌝ }
+    ensures number { λ r. ⌜ r ≡ readingNumber answer ⌝ }
+    ensures out { λ _. ⌜ now (reader .exit) ≡ readingOut answer (now (reader .entry)) ⌝ }
+{
+    match answer {
+        Reading::Ready(r) => {
+            *reader = [
+                r.frames,
+                r.names,
+                r.entries,
+                r.index,
+                r.namelist,
+                r.size,
+                r.version,
+                0,
+            ];
+            0
+        }
+        Reading::Refused(number) => number,
+    }
+}
+
+// A name's id.
+pub fn put_id(answer: Ident, out: &mut [u64; 1]) -> u64
+    requires { ⌜ (answer ≡ Ident.Refused 0 → ⊥) ⌝ }
+    ensures number { λ r. ⌜ r ≡ identNumber answer ⌝ }
+    ensures out { λ _. ⌜ now (out .exit) ≡ identOut answer (now (out .entry)) ⌝ }
+{
+    match answer {
+        Ident::Is(id) => {
+            *out = [id];
+            0
+        }
+        Ident::Refused(number) => number,
     }
 }

@@ -1,22 +1,20 @@
 -- Laws of what is found: where names and chunks lie, and the element of an entry that is found.
-use Prim.Native.Nat.{ℕ, zero, suc, _+_, _*_, _-_, _≤_, _<_}
+use Prim.Native.Nat.{ℕ, zero, suc, _*_, _<_}
 use mathlib.Core.Path.{_≡_, refl, sym, _∙_, ap}
-use mathlib.Core.List.{List, []}
+use mathlib.Core.List.{List}
 use native.Mathlib.Decide.{decLt}
 use native.Mathlib.Omega.{arith}
 use lib.ListN.{length}
 use Rattle.gsd_format.specs.declared.Entry.{Entry}
 use Rattle.gsd_format.specs.declared.Listed.{Listed}
-use Rattle.gsd_format.specs.declared.Part.{Part}
 use Rattle.gsd_format.specs.declared.Place.{Place}
 use Rattle.gsd_format.specs.declared.Element.{Element}
-use Rattle.gsd_format.specs.Bytes.{part}
 use Rattle.gsd_format.specs.Header.{layoutOf}
 use Rattle.gsd_format.specs.Types.{chunkSize}
 use Rattle.gsd_format.specs.Names.{nameParts, namesOf}
 use Rattle.gsd_format.specs.Entries.{entriesOf}
 use Rattle.gsd_format.specs.Opening.{openName, verdict}
-use Rattle.gsd_format.specs.Lookup.{nowhere, nthName, lookup, placed, chunkPlace, bytesAt}
+use Rattle.gsd_format.specs.Lookup.{nowhere, nthName, lookup, placed, chunkPlace}
 use Rattle.gsd_format.specs.Elements.{elementIn, element}
 use Rattle.gsd_format.proofs.Lists.{Each, each-at}
 use Rattle.gsd_format.proofs.Types.{known-sized}
@@ -27,31 +25,9 @@ use Rattle.gsd_format.proofs.Lookup.{find-sound, look-found, opened-lookup, ope
 use Rattle.gsd_open.specs.Index.{Capped}
 use Rattle.gsd_open.proofs.Surveys.{layout-length}
 use Rattle.gsd_elements.specs.Held.{Held}
-use Rattle.gsd_read.specs.Lookups.{Inside, LiesAt}
+use Rattle.gsd_parts.specs.Parts.{Inside}
 
 -- Where names and chunks lie
-
-module _ (img : List ℕ) (place : Place) where
-  pub inside-at : (p : Part) → place ≡ Place.At p → Inside img place → p .start + p .size ≤ length img
-  unfolding Inside
-  inside-at p e h = rw e at h
-
-  pub bytes-at : (p : Part) → place ≡ Place.At p → bytesAt img place ≡ part img (p .start) (p .start + p .size - p .start)
-  unfolding bytesAt
-  bytes-at p e = ap (bytesAt img) e ∙ ap (part img (p .start)) (let q : p .size ≡ p .start + p .size - p .start = omega arith in q)
-
-  pub bytes-none : (n : ℕ) → place ≡ Place.Refused n → bytesAt img place ≡ []
-  unfolding bytesAt
-  bytes-none n e = ap (bytesAt img) e
-
--- the pointer of a part that starts at a place
-pub lies-at : (place : Place) (p : Part) (from to : ℕ × ℕ) → place ≡ Place.At p → (to .0 ≡ from .0) × (to .1 ≡ from .1 + p .start) → LiesAt from place to
-unfolding LiesAt
-lies-at place p from to e h = rw e h
-
-pub lies-anywhere : (place : Place) (n : ℕ) (p q : ℕ × ℕ) → place ≡ Place.Refused n → LiesAt p place q
-unfolding LiesAt
-lies-anywhere place n p q e = rw e tt
 
 pub name-inside : (img : List ℕ) (n : ℕ) → Inside img (nthName img n)
 unfolding Inside

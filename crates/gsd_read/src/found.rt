@@ -15,12 +15,11 @@ use gsd_names::name_part;
 use gsd_open::chunk_bytes;
 use gsd_open::entry_at;
 use gsd_open::survey_of;
+use gsd_parts::part_at;
 use gsd_search::Query;
 use gsd_search::find_entry;
 ghost use mathlib.Core.Path.{_≡_};
-ghost use Prim.Native.Nat.{_+_, _-_, _≤_};
 ghost use lib.ListN.{length};
-ghost use Rattle.gsd_format.specs.Bytes.{part};
 ghost use Rattle.gsd_format.specs.declared.Listed.{Listed};
 ghost use Rattle.gsd_format.specs.Opening.{verdict, opening};
 ghost use Rattle.gsd_format.specs.Lookup.{nthEntry, nthName, lookup, chunkPlace, bytesAt};
@@ -29,7 +28,7 @@ ghost use Rattle.gsd_format.specs.Answers.{openingNumber, openingValues, listed
 ghost use Rattle.gsd_format.specs.Answers.{elementNumber, elementValues};
 ghost use Rattle.gsd_format.specs.Calls.{openValues, nthEntryTest, nthEntryValues, nthNameTest, nthNameValues};
 ghost use Rattle.gsd_format.specs.Calls.{lookupTest, lookupValues, probesOf, chunkValues, elementTest, nthElementValues};
-ghost use Rattle.gsd_read.specs.Lookups.{Inside, LiesAt};
+ghost use Rattle.gsd_parts.specs.Parts.{LiesAt};
 
 // How many frames, names and entries an image has, or why it is refused.
 pub fn open(image: &[u8]) -> Opening
@@ -81,29 +80,6 @@ pub fn name(image: &[u8], n: u64) -> Place
         return Place::Refused(44);
     }
     Place::At(name_part(&starts, is_10(s.layout.version), n as usize))
-}
-
-// The bytes from start up to end, where they lie.
-fn stretch(image: &[u8], start: usize, end: usize) -> &[u8]
-    requires ordered { ⌜ start ≤ end ⌝ }
-    requires inside { ⌜ end ≤ length (now image) ⌝ }
-    ensures { λ r. ⌜ now r ≡ part (now (image .entry)) start (end - start) ⌝ }
-    ensures base { λ r. ⌜ r .ptr .0 ≡ image .entry .ptr .0 ⌝ }
-    ensures offset { λ r. ⌜ r .ptr .1 ≡ image .entry .ptr .1 + start ⌝ }
-{
-    &image[start..end]
-}
-
-// The part of the image at a place; a refusal's is empty.
-fn part_at(image: &[u8], place: Place) -> &[u8]
-    requires { ⌜ Inside (now image) place ⌝ }
-    ensures { λ r. ⌜ now r ≡ bytesAt (now (image .entry)) place ⌝ }
-    ensures itself { λ r. ⌜ LiesAt (image .entry .ptr) place (r .ptr) ⌝ }
-{
-    match place {
-        Place::At(p) => stretch(image, p.start, p.start + p.size),
-        Place::Refused(_) => &image[0..0],
-    }
 }
 
 // The name with id n as that part of the image itself; a refusal gives an empty part.

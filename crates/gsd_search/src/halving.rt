@@ -33,7 +33,7 @@ fn first_id(version: u64, id: u64) -> u64
 }
 
 // The number of the first entry that is not below the frame and that id.
-pub(crate) fn halve(image: &[u8], q: Query, probes: &mut u64) -> u64
+pub fn halve(image: &[u8], q: Query, probes: &mut u64) -> u64
     requires fits { ⌜ Fits (now image) q ⌝ }
     requires none { ⌜ now probes ≡ 0 ⌝ }
     ensures { λ r. ⌜ r ≡ halvedFor (now (image .entry)) q .place ⌝ }

@@ -4,5 +4,6 @@ mod halving;
 mod probing;
 mod walking;
 
+pub use halving::halve;
 pub use probing::Query;
 pub use walking::find_entry;

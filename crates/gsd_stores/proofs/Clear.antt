@@ -17,7 +17,7 @@ use Rattle.gsd_stores.specs.Steps.{clearIndex, clearNames, storeTexts, s
 use Rattle.gsd_stores.proofs.Stores.{between, over-off}
 use Rattle.gsd_stores.proofs.Phases.{Phase, phase-nil, phase-weaken, _⨾_}
 use Rattle.gsd_stores.proofs.Texts.{Stand, stand-none, end-more}
-use Rattle.gsd_stores.proofs.View.{Is, Free, free-index, free-names, free-behind, Room, Base, Passes, IndexClear, Stage, phase-quiet}
+use Rattle.gsd_stores.proofs.View.{Is, names-byte, Free, free-index, free-names, free-behind, Room, Base, Passes, IndexClear, Stage, phase-quiet}
 
 -- where step 1 writes, the byte stands there already or its place is free
 cleared-index : {v : View} {x : List ℕ} → Is x v → (p : ℕ) → entriesEnd v ≤ p → p < indexEnd (v .layout) → (0 ≡ getD x p 0) ⊎ Free v p
@@ -34,7 +34,7 @@ cleared-names : {v : View} {x : List ℕ} → Is x v → (p : ℕ) → v .layout
 cleared-names {v} {x} h p a b = go (decLt p (namesEnd v)) (decLt (namesEnd v) p)
   where
     go : Dec (p < namesEnd v) → Dec (namesEnd v < p) → (getD (flat (v .names)) (p - v .layout .namelist) 0 ≡ getD x p 0) ⊎ Free v p
-    go (yes c) d = inl (sym (h .names .each (p - v .layout .namelist) (omega arith)) ∙ ap (λ i. getD x i 0) (omega arith))
+    go (yes c) d = inl (sym (names-byte h p a c))
     go (no c) (yes d) = inr (free-names h p d b)
     go (no c) (no d) =
         inl (List·getD-eq-default (flat (v .names)) 0 (omega arith) ∙ sym (h .names .closed (omega arith)) ∙ ap (λ i. getD x i 0) (omega arith))

@@ -31,3 +31,8 @@ pub mod Limits
 pub mod Places
 pub mod Starts
 pub mod Moving
+-- A reader is a snapshot.
+pub mod Lasting
+pub mod Flows
+pub mod Snapshot
+pub mod Ids

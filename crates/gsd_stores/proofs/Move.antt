@@ -19,7 +19,7 @@ use Rattle.gsd_stores.proofs.Stores.{Over, over-off}
 use Rattle.gsd_stores.proofs.Phases.{Phase, phase-nil, phase-one, _⨾_}
 use Rattle.gsd_stores.proofs.Texts.{size}
 use Rattle.gsd_stores.proofs.View.{indexLaid, namesLaid, withLayout, withIndexBlock, withNameBlock, is-long, free-behind, Room, room-laid}
-use Rattle.gsd_stores.proofs.View.{Base, Quiet, Stage, stage-behind, phase-quiet}
+use Rattle.gsd_stores.proofs.View.{Base, Passes, Quiet, Stage, stage-behind, phase-quiet}
 use Rattle.gsd_stores.proofs.Blocks.{Filled, filled-text, Block, theIndex, theNames, unitOf, startIn, countIn, listIn}
 use Rattle.gsd_stores.proofs.Blocks.{Housed, housed-kept, stage-housed, Relaid, restage}
 
@@ -44,7 +44,7 @@ laid-long theNames l b n = refl
 -- The header
 
 -- the words lie in the header's bytes 8 to 39
-in-layout : (k : Block) → (8 ≤ headerPlace k) × (headerPlace k + 16 ≤ 40)
+pub in-layout : (k : Block) → (8 ≤ headerPlace k) × (headerPlace k + 16 ≤ 40)
 in-layout theIndex = (omega arith, omega arith)
 in-layout theNames = (omega arith, omega arith)
 
@@ -173,43 +173,51 @@ module _ {x₀ : List ℕ} {v : View} {d : ℕ} {t : List (List ℕ)} (k : Block
   abbrev half : Layout
   half = laid k (v .layout) b (countIn k (v .layout))
 
-  -- the image shows v while the block is copied, then the new place with the old count, and at last the new count
+  -- the block is copied: the image shows v
+  pub copy-block : {W : List ℕ → List ℕ → Type 0} → Passes x₀ W v v →
+      Phase (Stage x₀ v d t) (Copied x₀ v d t b (unitOf k * n) text) W (words text b (up b (wordsIn k * n)))
+  copy-block same =
+      phase-quiet same text b b (wordsIn k * n) (omega arith) (λ x s. s .base) (λ x c. c .stage .base)
+      (λ x s. omega (arith, unit-words k n))
+      (λ x s p l m. inr (free-behind (s .base .is) room p l))
+      (λ x s y o q. record { stage = stage-behind room (o .long) (o .below) s; filled = λ p l m. o .inside p l (omega (arith, unit-words k n)) })
+
+  -- the first word of the header: the new place with the old count
+  pub place-block : {W : List ℕ → List ℕ → Type 0} → Passes x₀ W v v → Passes x₀ W v (withLayout v half) →
+      Phase (Copied x₀ v d t b (unitOf k * n) text) (Placed x₀ v d t k b n text (countIn k (v .layout))) W
+      (words (leBytes 8 b) (headerPlace k) (up (headerPlace k) 1))
+  place-block same move =
+      phase-one {M = Base x₀ v} same (λ y z s p. move y z s (placed-stage (omega arith) more p .base))
+      (leBytes 8 b) (headerPlace k) (λ x c. omega (arith, in-layout k)) (λ x c. c .stage .base)
+      (λ x c y o. record {
+        old = x;
+        copied = c;
+        headed = headed-start (omega (arith, is-long (c .stage .base .is))) (old-count k x ∙ ap (countIn k) (c .stage .base .is .layout)) o;
+      })
+
+  -- the second word: the new count
+  pub count-block : {W : List ℕ → List ℕ → Type 0} →
+      Passes x₀ W (withLayout v half) (withLayout v half) → Passes x₀ W (withLayout v half) (withBlock k v b n) →
+      Phase (Placed x₀ v d t k b n text (countIn k (v .layout))) (Stage x₀ (withBlock k v b n) d t) W
+      (words (leBytes 8 n) (headerPlace k + 8) (up (headerPlace k + 8) 1))
+  count-block same grow =
+      phase-one {M = Base x₀ (withLayout v half)} same (λ y z s e. grow y z s (e .base))
+      (leBytes 8 n) (headerPlace k + 8) (λ x p. omega (arith, in-layout k)) (λ x p. placed-stage (omega arith) more p .base)
+      (λ x p y o. placed-stage more (omega arith) (record {
+        old = p .old;
+        copied = p .copied;
+        headed = headed-count (omega (arith, unit-words k n, is-long (p .copied .stage .base .is))) (p .headed) o;
+      }))
+
+  -- all three
   pub move-block : {W : List ℕ → List ℕ → Type 0} → Quiet x₀ W v →
       Phase (Stage x₀ v d t) (Stage x₀ (withBlock k v b n) d t) W (moved true b (wordsIn k * n) text (headerPlace k) n)
   unfolding moved
-  move-block {W} quiet = copy ⨾ start ⨾ count
-    where
-      copy : Phase (Stage x₀ v d t) (Copied x₀ v d t b (unitOf k * n) text) W (words text b (up b (wordsIn k * n)))
-      copy =
-          phase-quiet (quiet (v .layout) (v .layout) refl refl) text b b (wordsIn k * n) (omega arith) (λ x s. s .base) (λ x c. c .stage .base)
-          (λ x s. omega (arith, unit-words k n))
-          (λ x s p l m. inr (free-behind (s .base .is) room p l))
-          (λ x s y o q. record { stage = stage-behind room (o .long) (o .below) s; filled = λ p l m. o .inside p l (omega (arith, unit-words k n)) })
-
-      start : Phase (Copied x₀ v d t b (unitOf k * n) text) (Placed x₀ v d t k b n text (countIn k (v .layout))) W
-          (words (leBytes 8 b) (headerPlace k) (up (headerPlace k) 1))
-      start =
-          phase-one {M = Base x₀ v} (quiet (v .layout) (v .layout) refl refl)
-          (λ y z s p. quiet (v .layout) half refl (laid-long k (v .layout) b (countIn k (v .layout))) y z s (placed-stage (omega arith) more p .base))
-          (leBytes 8 b) (headerPlace k) (λ x c. omega (arith, in-layout k)) (λ x c. c .stage .base)
-          (λ x c y o. record {
-            old = x;
-            copied = c;
-            headed = headed-start (omega (arith, is-long (c .stage .base .is))) (old-count k x ∙ ap (countIn k) (c .stage .base .is .layout)) o;
-          })
-
-      count : Phase (Placed x₀ v d t k b n text (countIn k (v .layout))) (Stage x₀ (withBlock k v b n) d t) W
-          (words (leBytes 8 n) (headerPlace k + 8) (up (headerPlace k + 8) 1))
-      count =
-          let short : half .len ≡ v .layout .len = laid-long k (v .layout) b (countIn k (v .layout)) in
-          phase-one {M = Base x₀ (withLayout v half)} (quiet half half short short)
-          (λ y z s e. quiet half (laid k (v .layout) b n) short (laid-long k (v .layout) b n) y z s (e .base))
-          (leBytes 8 n) (headerPlace k + 8) (λ x p. omega (arith, in-layout k)) (λ x p. placed-stage (omega arith) more p .base)
-          (λ x p y o. placed-stage more (omega arith) (record {
-            old = p .old;
-            copied = p .copied;
-            headed = headed-count (omega (arith, unit-words k n, is-long (p .copied .stage .base .is))) (p .headed) o;
-          }))
+  move-block quiet =
+      let short : half .len ≡ v .layout .len = laid-long k (v .layout) b (countIn k (v .layout)) in
+      copy-block (quiet (v .layout) (v .layout) refl refl)
+      ⨾ place-block (quiet (v .layout) (v .layout) refl refl) (quiet (v .layout) half refl short)
+      ⨾ count-block (quiet half half short short) (quiet half (laid k (v .layout) b n) short (laid-long k (v .layout) b n))
 
 -- The steps: the block moves if the flag says so
 
@@ -217,7 +225,7 @@ module _ {x₀ : List ℕ} {v : View} {d : ℕ} {t : List (List ℕ)} (k : Block
 abbrev pub ifMoved : Block → Bool → View → ℕ → ℕ → View
 ifMoved k flag v b n = withBlock k v (cond flag b (startIn k (v .layout))) (cond flag n (countIn k (v .layout)))
 
-block-stays : (k : Block) (v : View) → withBlock k v (startIn k (v .layout)) (countIn k (v .layout)) ≡ v
+pub block-stays : (k : Block) (v : View) → withBlock k v (startIn k (v .layout)) (countIn k (v .layout)) ≡ v
 block-stays theIndex v = refl
 block-stays theNames v = refl
 
@@ -238,17 +246,22 @@ room-step {v} theIndex true a b n h r =
 room-step {v} theNames true a b n h r =
     room-laid r (laid theNames (v .layout) b n) (v .names) (b + 64 * n) (omega arith) (omega arith) (omega arith) (r .offIndex) (λ p c e f g. omega arith)
 
+-- the entries' bytes are those of the beginning, where the index block began at a
+pub entries-begun : {x₀ : List ℕ} {v : View} {x : List ℕ} (a : ℕ) → layoutOf x₀ .index ≡ a → a + 32 * length (v .entries) ≤ length x₀ → Base x₀ v x →
+    listIn theIndex x v ≡ part x₀ a (32 * length (v .entries))
+entries-begun {x₀} {v} {x} a e l b =
+    part-same x (v .layout .index) x₀ a (32 * length (v .entries)) (omega (arith, is-long (b .is))) l (rw e at (b .raw))
+
 module _ {x₀ : List ℕ} {W : List ℕ → List ℕ → Type 0} {v : View} {d : ℕ} {t : List (List ℕ)} (flag : Bool) (b n : ℕ) (room : Room v d (size d t) b) where
   pub names-step : v .layout .segments ≤ cond flag n (v .layout .segments) → (flag ≡ true → b + 64 * n ≤ v .layout .len) → Quiet x₀ W v →
       Phase (Stage x₀ v d t) (Stage x₀ (withNameBlock v (cond flag b (v .layout .namelist)) (cond flag n (v .layout .segments))) d t) W
       (moved flag b (8 * n) (flat (v .names)) 24 n)
   names-step more fits = move-step theNames flag b n (flat (v .names)) room more fits (λ x s. refl)
 
-  -- the entries' bytes are those of the beginning, where the index block began at a
   pub index-step : (a : ℕ) → layoutOf x₀ .index ≡ a → a + 32 * length (v .entries) ≤ length x₀ →
       v .layout .slots ≤ cond flag n (v .layout .slots) → (flag ≡ true → b + 32 * n ≤ v .layout .len) → Quiet x₀ W v →
       Phase (Stage x₀ v d t) (Stage x₀ (withIndexBlock v (cond flag b (v .layout .index)) (cond flag n (v .layout .slots))) d t) W
       (moved flag b (4 * n) (part x₀ a (32 * length (v .entries))) 8 n)
   index-step a e l more fits =
       move-step theIndex flag b n (part x₀ a (32 * length (v .entries))) room more fits
-      (λ x s. part-same x (v .layout .index) x₀ a (32 * length (v .entries)) (omega (arith, is-long (s .base .is))) l (rw e at (s .base .raw)))
+      (λ x s. entries-begun a e l (s .base))

@@ -49,7 +49,7 @@ flat-name ns b = flat-append ns (b ∷ []) ∙ sym (append-assoc (flat ns) b (0 
 -- One name
 
 -- the words that hold a name of so many bytes behind the list's
-name-words : (block size name n : ℕ) → block % 8 ≡ 0 → 0 < name → size + name ≤ 64 * n →
+pub name-words : (block size name n : ℕ) → block % 8 ≡ 0 → 0 < name → size + name ≤ 64 * n →
     let first : ℕ = block + size in let count : ℕ = (first + name - 1) / 8 - first / 8 + 1 in
     (block ≤ first / 8 * 8) × (first + name ≤ first / 8 * 8 + 8 * count) × (first / 8 * 8 + 8 * count ≤ block + 64 * n)
 name-words block size name n even some fits = (omega arith, omega arith, omega arith)

@@ -124,6 +124,40 @@ moments-ordered (later t) start = inr (fromStart (later t))
 moments-ordered (later t) (during k h) = inr (fromCall k h t)
 moments-ordered (later t) (later u) = elim (moments-ordered t u) [ inl f ↦ inl (bothLater f) | inr f ↦ inr (bothLater f) ]
 
+-- From store to store. R holds from an image to itself, joins, and leads from the image before each store of an accepted append to
+-- that after it; then it leads from a moment of a run to every later one
+module _ (R : List ℕ → List ℕ → Type 0) (same : (a : List ℕ) → R a a) (join : (a b c : List ℕ) → R a b → R b c → R a c)
+    (each : (x s : List ℕ) → Bytes s → appendTest x s ≡ 0 → (k : ℕ) → k < length (storesFor x s) →
+    R (after x (take k (storesFor x s))) (after x (take (suc k) (storesFor x s)))) where
+  store-leads : (x : List ℕ) (c : Call) (k : ℕ) → R (afterStores x c k) (afterStores x c (suc k))
+  store-leads x c k = go (ℕ-discrete (appendTest x (c .sheet)) 0) (decLt k (length (storesFor x (c .sheet))))
+    where
+      go : Dec (appendTest x (c .sheet) ≡ 0) → Dec (k < length (storesFor x (c .sheet))) → R (afterStores x c k) (afterStores x c (suc k))
+      go (yes e) (yes l) = each x (c .sheet) (c .bytes) e k l
+      go (yes e) (no l) = rw (take-all k (storesFor x (c .sheet)) (omega arith), take-all (suc k) (storesFor x (c .sheet)) (omega arith)) (same _)
+      go (no e) d = rw (refused-keeps x (c .sheet) k e, refused-keeps x (c .sheet) (suc k) e) (same x)
+
+  stores-lead : (x : List ℕ) (c : Call) (k n : ℕ) → R (afterStores x c k) (afterStores x c (n + k))
+  stores-lead x c k zero = rw zero-add (same (afterStores x c k))
+  stores-lead x c k (suc n) = rw suc-add (join _ _ _ (stores-lead x c k n) (store-leads x c (n + k)))
+
+  call-leads : (x : List ℕ) (c : Call) (k l : ℕ) → k ≤ l → R (afterStores x c k) (afterStores x c l)
+  call-leads x c k l h = let e : l ≡ l - k + k = omega arith in rw e (stores-lead x c k (l - k))
+
+  done-leads : (x : List ℕ) (c : Call) (k : ℕ) → k ≤ storesMade x c → R (afterStores x c k) (afterCall x c)
+  done-leads x c k h = rw (after-call x c) (call-leads x c k (storesMade x c) h)
+
+  pub moment-leads : {x : List ℕ} {cs : List Call} {m : List ℕ} → Moment x cs m → R x m
+  moment-leads (start {x = x}) = same x
+  moment-leads (during {x = x} {c = c} k h) = rw (zeroth x c) at (call-leads x c 0 k (omega arith))
+  moment-leads (later {x = x} {c = c} t) = join x (afterCall x c) _ (rw (zeroth x c) at (done-leads x c 0 (omega arith))) (moment-leads t)
+
+  pub follows-leads : {x : List ℕ} {cs : List Call} {m n : List ℕ} → Follows x cs m n → R m n
+  follows-leads (fromStart t) = moment-leads t
+  follows-leads (inCall {x = x} {c = c} k l h g) = call-leads x c k l h
+  follows-leads (fromCall {x = x} {c = c} k h t) = join _ (afterCall x c) _ (done-leads x c k h) (moment-leads t)
+  follows-leads (bothLater f) = follows-leads f
+
 module _ (accepted : (x s : List ℕ) → Bytes s → appendTest x s ≡ 0 → Accepted x s) where
   -- One call
 
@@ -143,27 +177,8 @@ module _ (accepted : (x s : List ℕ) → Bytes s → appendTest x s ≡ 0 → A
       go (yes e) = accepted x (c .sheet) (c .bytes) e .each k l .same
       go (no e) = ap frames (refused-keeps x (c .sheet) k e)
 
-  -- from a moment of a call to the next, and to any later one
-  store-keeps : (x : List ℕ) (c : Call) (k : ℕ) → Keep (afterStores x c k) (afterStores x c (suc k))
-  store-keeps x c k = go (ℕ-discrete (appendTest x (c .sheet)) 0) (decLt k (length (storesFor x (c .sheet))))
-    where
-      go : Dec (appendTest x (c .sheet) ≡ 0) → Dec (k < length (storesFor x (c .sheet))) → Keep (afterStores x c k) (afterStores x c (suc k))
-      go (yes e) (yes l) = accepted x (c .sheet) (c .bytes) e .each k l .keep
-      go (yes e) (no l) = rw (take-all k (storesFor x (c .sheet)) (omega arith), take-all (suc k) (storesFor x (c .sheet)) (omega arith)) (keep-refl _)
-      go (no e) d = rw (refused-keeps x (c .sheet) k e, refused-keeps x (c .sheet) (suc k) e) (keep-refl x)
-
-  stores-keep : (x : List ℕ) (c : Call) (k n : ℕ) → Keep (afterStores x c k) (afterStores x c (n + k))
-  stores-keep x c k zero = rw zero-add (keep-refl (afterStores x c k))
-  stores-keep x c k (suc n) = rw suc-add (keep-trans _ _ _ (stores-keep x c k n) (store-keeps x c (n + k)))
-
-  call-keeps : (x : List ℕ) (c : Call) (k l : ℕ) → k ≤ l → Keep (afterStores x c k) (afterStores x c l)
-  call-keeps x c k l h = let e : l ≡ l - k + k = omega arith in rw e (stores-keep x c k (l - k))
-
   done-opens : (x : List ℕ) (c : Call) → verdict x ≡ 0 → verdict (afterCall x c) ≡ 0
   done-opens x c o = rw (after-call x c) (call-opens x c o (storesMade x c))
-
-  done-keeps : (x : List ℕ) (c : Call) (k : ℕ) → k ≤ storesMade x c → Keep (afterStores x c k) (afterCall x c)
-  done-keeps x c k h = rw (after-call x c) (call-keeps x c k (storesMade x c) h)
 
   call-whole : (x : List ℕ) (c : Call) → lastStoreMade x c ≡ true → Grown x (rowsOf (c .sheet)) (afterCall x c)
   call-whole x c h =
@@ -186,16 +201,15 @@ module _ (accepted : (x s : List ℕ) → Bytes s → appendTest x s ≡ 0 → A
   moment-opens (during {x = x} {c = c} k h) o = call-opens x c o k
   moment-opens (later {x = x} {c = c} t) o = moment-opens t (done-opens x c o)
 
+  store-keeps : (x s : List ℕ) → Bytes s → appendTest x s ≡ 0 → (k : ℕ) → k < length (storesFor x s) →
+      Keep (after x (take k (storesFor x s))) (after x (take (suc k) (storesFor x s)))
+  store-keeps x s o h k l = accepted x s o h .each k l .keep
+
   moment-keeps : {x : List ℕ} {cs : List Call} {m : List ℕ} → Moment x cs m → Keep x m
-  moment-keeps (start {x = x}) = keep-refl x
-  moment-keeps (during {x = x} {c = c} k h) = rw (zeroth x c) at (call-keeps x c 0 k (omega arith))
-  moment-keeps (later {x = x} {c = c} t) = keep-trans x (afterCall x c) _ (rw (zeroth x c) at (done-keeps x c 0 (omega arith))) (moment-keeps t)
+  moment-keeps t = moment-leads Keep keep-refl keep-trans store-keeps t
 
   follows-keeps : {x : List ℕ} {cs : List Call} {m n : List ℕ} → Follows x cs m n → Keep m n
-  follows-keeps (fromStart t) = moment-keeps t
-  follows-keeps (inCall {x = x} {c = c} k l h g) = call-keeps x c k l h
-  follows-keeps (fromCall {x = x} {c = c} k h t) = keep-trans _ (afterCall x c) _ (done-keeps x c k h) (moment-keeps t)
-  follows-keeps (bothLater f) = follows-keeps f
+  follows-keeps t = follows-leads Keep keep-refl keep-trans store-keeps t
 
   completed-none : (x : List ℕ) → completed x [] ≡ []
   unfolding completed

@@ -293,8 +293,12 @@ Off p l = Each (Misses p) l
 abbrev pub Within : ℕ → ℕ → List ℕ → Type 0
 Within base n l = Each (λ a. (base ≤ a) × (a + 8 ≤ n)) l
 
--- stores that miss p leave it alone
-pub after-off : (img : List ℕ) (p : ℕ) (xs : List Store) → Each (λ s. (length (s .bytes) ≡ 8) × Misses p (s .place)) xs → getD (after img xs) p 0 ≡ getD img p 0
+-- a store of a word that does not hold p
+abbrev pub Missed : ℕ → Store → Type 0
+Missed p s = (length (s .bytes) ≡ 8) × Misses p (s .place)
+
+-- such stores leave it alone
+pub after-off : (img : List ℕ) (p : ℕ) (xs : List Store) → Each (Missed p) xs → getD (after img xs) p 0 ≡ getD img p 0
 unfolding after
 after-off img p [] e = refl
 after-off img p (s ∷ ss) e = after-off (stored img (s .place) (s .bytes)) p ss (e .1) ∙ outside (decLt p (s .place)) (decLt p (s .place + 8))
@@ -304,8 +308,11 @@ after-off img p (s ∷ ss) e = after-off (stored img (s .place) (s .bytes)) p ss
     outside (no b) (yes c) = absurd (e .0 .1 (omega arith) c)
     outside (no b) (no c) = stored-above img (s .place) (s .bytes) p (omega (arith, e .0 .0))
 
+pub words-missed : (t : List ℕ) (base p : ℕ) (l : List ℕ) → Off p l → Each (Missed p) (words t base l)
+words-missed t base p l e = each-words (Missed p) t base l (each-so _ _ (λ a m. (refl, m)) l e)
+
 pub words-off : (img t : List ℕ) (base p : ℕ) (l : List ℕ) → Off p l → getD (after img (words t base l)) p 0 ≡ getD img p 0
-words-off img t base p l e = after-off img p (words t base l) (each-words _ t base l (each-so _ _ (λ a m. (refl, m)) l e))
+words-off img t base p l e = after-off img p (words t base l) (words-missed t base p l e)
 
 -- a place that has the text's byte keeps it
 pub words-keep : (img t : List ℕ) (base n p : ℕ) (l : List ℕ) → n ≤ length img → Within base n l → getD img p 0 ≡ getD t (p - base) 0 →

@@ -64,6 +64,11 @@ pub is-long : {x : List ℕ} {v : View} → Is x v → length x ≡ v .layout .l
 unfolding layoutOf
 is-long h = ap (λ l. l .len) (h .layout)
 
+-- the bytes of the name list
+pub names-byte : {x : List ℕ} {v : View} → Is x v → (p : ℕ) → v .layout .namelist ≤ p → p < namesEnd v →
+    getD x p 0 ≡ getD (flat (v .names)) (p - v .layout .namelist) 0
+names-byte {x} {v} h p a b = ap (λ i. getD x i 0) (omega arith) ∙ h .names .each (p - v .layout .namelist) (omega arith)
+
 pub view-is : (x : List ℕ) (v : View) → Is x v → viewOf x ≡ v
 unfolding viewOf entriesOf
 view-is x v h =

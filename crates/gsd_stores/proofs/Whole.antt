@@ -76,8 +76,22 @@ module _ {v : View} {p : Plan} (g : Good v p) where
   pub room-names : Room (named v p) (p .start) (size (p .start) (p .body)) (namesDone p)
   room-names = room-named (v .names ++ p .fresh) room-roomy
 
-  room-ready : Room (ready v p) (p .start) (size (p .start) (p .body)) (finalPosition p)
+  pub room-ready : Room (ready v p) (p .start) (size (p .start) (p .body)) (finalPosition p)
   room-ready = room-step theIndex (p .indexMoves) (namesDone p) (indexStart p) (p .slots) (omega arith) room-names
+
+  -- A block that moves starts at the first aligned place behind the data, the index block behind a name block that moved: there is
+  -- room from there on, and the block ends in the slice
+  pub names-room : Room v (p .start) (size (p .start) (p .body)) (namesStart p)
+  names-room = room-more (namesStart p) (omega arith) room-before
+
+  pub index-room : Room (named v p) (p .start) (size (p .start) (p .body)) (indexStart p)
+  index-room = room-more (indexStart p) (omega arith) room-names
+
+  pub names-inside : p .namesMove ≡ true → namesStart p + 64 * p .segments ≤ v .layout .len
+  names-inside m = omega (arith, taken (p .namesMove) (namesStart p + 64 * p .segments) (dataEnd p) m, names-fit)
+
+  pub index-inside : p .indexMoves ≡ true → indexStart p + 32 * p .slots ≤ v .layout .len
+  index-inside m = omega (arith, taken (p .indexMoves) (indexStart p + 32 * p .slots) (namesDone p) m, g .fits)
 
   pub block-even : nameBlock v p % 8 ≡ 0
   block-even = cond-even (p .namesMove) (namesStart p) (v .layout .namelist) (omega arith) (g .namelistEven)
@@ -90,14 +104,12 @@ module _ {v : View} {p : Plan} (g : Good v p) where
       clear-index (before (v .layout) (v .layout) refl refl)
       ⨾ clear-names (before (v .layout) (v .layout) refl refl) (p .start) (g .namelistEven)
       ⨾ store-data (before (v .layout) (v .layout) refl refl) p (g .room) (g .bodyEven) data-fits
-      ⨾ names-step (p .namesMove) (namesStart p) (p .segments) (room-more (namesStart p) (omega arith) room-before) (g .moreSegments)
-      (λ m. omega (arith, taken (p .namesMove) (namesStart p + 64 * p .segments) (dataEnd p) m, names-fit)) before
+      ⨾ names-step (p .namesMove) (namesStart p) (p .segments) names-room (g .moreSegments) names-inside before
       ⨾ all-names (roomy v p) (p .fresh) (g .room .low) (room-roomy .offNames) block-even (g .fresh) (g .namesFit)
       (λ ns ms i j l e f. passes (withNames (roomy v p) ns) (withNames (roomy v p) ms) i j l
       (record { len = refl; entries = refl; names = e }) (record { len = refl; entries = refl; names = f }))
-      ⨾ index-step (p .indexMoves) (indexStart p) (p .slots) (room-more (indexStart p) (omega arith) room-names) (v .layout .index)
-      (ap (λ l. l .index) (h .layout)) (omega (arith, is-long h)) (g .moreSlots)
-      (λ m. omega (arith, taken (p .indexMoves) (indexStart p + 32 * p .slots) (namesDone p) m, g .fits)) behind
+      ⨾ index-step (p .indexMoves) (indexStart p) (p .slots) index-room (v .layout .index)
+      (ap (λ l. l .index) (h .layout)) (omega (arith, is-long h)) (g .moreSlots) index-inside behind
       ⨾ store-entries (p .entries) (p .start) (p .body) (behind (ready v p .layout) (ready v p .layout) refl refl) last
       (g .entriesFit) (g .sound) (g .exact) (room-ready .offIndex)
     where

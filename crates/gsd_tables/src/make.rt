@@ -36,7 +36,7 @@ pub fn put_byte(bytes: &mut [u8; 32768], at: u64, b: u64) -> u64 {
     b / 256
 }
 
-// What a word puts into an image, or into a sheet, whose end is told; not 0 where that cannot be.
+// What a word puts into an image, or into a sheet, whose end is told; not 0 where that cannot be. A reader has eight words.
 fn put(
     k: usize,
     at: u64,
@@ -58,6 +58,7 @@ fn put(
         words::SHEET => put_text(sheet, 0, text),
         words::MORE => put_text(sheet, end, text),
         words::PATCH => put_byte(sheet, at, n),
+        words::READER_WORD => at / 8,
         _ => 0,
     }
 }

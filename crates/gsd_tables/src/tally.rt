@@ -143,12 +143,13 @@ fn say_values(text: &mut [u8; 32768], at: u64, values: &[u64]) -> u64 {
     end
 }
 
-// How many values are told at every number: those of probes, append, begin and turn.
+// How many values are told at every number: those of probes, append, begin and turn, and the words of the reader.
 fn told_always(k: usize) -> usize {
     match k {
         words::PROBES | words::TURN => 1,
         words::BEGIN => 2,
         words::APPEND => 3,
+        words::READER => 8,
         _ => 0,
     }
 }
@@ -159,9 +160,12 @@ fn told(k: usize, number: u64) -> usize {
         return told_always(k);
     }
     match k {
+        words::BY_ID => 1,
         words::NAME | words::CHUNK | words::ELEMENT => 2,
+        words::BY_NAME | words::BY_CHUNK | words::BY_ELEMENT => 2,
         words::OPEN => 3,
         words::ENTRY | words::LOOKUP => 7,
+        words::BY_ENTRY | words::BY_LOOKUP | words::BY_FIND | words::BY_NEWEST => 7,
         _ => told_always(k),
     }
 }
@@ -174,6 +178,7 @@ pub fn answer(
     two: &[u64; 2],
     three: &[u64; 3],
     seven: &[u64; 7],
+    reader: &[u64; 8],
     text: &mut [u8; 32768],
 ) -> u64 {
     let at = say(text, 0, number);
@@ -182,6 +187,7 @@ pub fn answer(
         2 => say_values(text, at, two),
         3 => say_values(text, at, three),
         7 => say_values(text, at, seven),
+        8 => say_values(text, at, reader),
         _ => at,
     }
 }

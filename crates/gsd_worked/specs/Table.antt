@@ -13,13 +13,19 @@ use Rattle.gsd_format.specs.Names.{namesOf, flat}
 use Rattle.gsd_format.specs.Entries.{nPlace, locationPlace, entriesOf}
 use Rattle.gsd_format.specs.Opening.{verdict}
 use Rattle.gsd_format.specs.declared.Entry.{Entry}
+use Rattle.gsd_format.specs.declared.Listed.{Listed}
+use Rattle.gsd_format.specs.declared.Place.{Place}
+use Rattle.gsd_format.specs.declared.Ident.{Ident}
+use Rattle.gsd_format.specs.declared.Reader.{Reader}
 use Rattle.gsd_format.specs.Lookup.{lookup, none}
 use Rattle.gsd_format.specs.Search.{binaryDigits, probed, searched}
 use Rattle.gsd_format.specs.Calls.{probesOf}
 use Rattle.gsd_format.specs.Elements.{element}
+use Rattle.gsd_format.specs.Readers.{reading, entryBy, nameBy, idBy, findBy, lookupBy, newestBy, chunkPlaceBy}
 use Rattle.gsd_format.specs.Create.{createNumber, created}
 use Rattle.gsd_format.specs.Listing.{printed}
-use Rattle.gsd_format.specs.Answers.{listedNumber, listedValues, elementValues}
+use Rattle.gsd_format.specs.Answers.{listedNumber, listedValues, elementValues, placeNumber, placeValues}
+use Rattle.gsd_format.specs.Answers.{readingNumber, readingValues, identNumber, identValues}
 use Rattle.gsd_stores.specs.View.{View, viewOf, endOfUse}
 use Rattle.gsd_stores.specs.Sheet.{Row, rowsOf, sheetTest}
 use Rattle.gsd_stores.specs.Plan.{Plan, planOf}
@@ -714,6 +720,104 @@ turns =
       says = "a name block that moves: its place with store 29, its segments with 30";
       got = after long 28 ++ after long 29 ++ after long 30;
       expected = 256 ∷ 2 ∷ 320 ∷ 1 ∷ 256 ∷ 2 ∷ 448 ∷ 1 ∷ 256 ∷ 2 ∷ 448 ∷ 2 ∷ [];
+    }
+    ∷ []
+
+-- opening's number and the reader's words; the number and the values of a reader's answers
+unfoldable pub readerIn : List ℕ → List ℕ
+readerIn img = readingNumber (reading img) ∷ readingValues (reading img)
+
+abbrev pub toldEntry : Listed → List ℕ
+toldEntry a = listedNumber a ∷ listedValues a
+
+abbrev pub toldPlace : Place → List ℕ
+toldPlace a = placeNumber a ∷ placeValues a
+
+abbrev pub toldId : Ident → List ℕ
+toldId a = identNumber a ∷ identValues a
+
+-- a reader of 2.1 with its name list at 320
+abbrev pub by21 : ℕ → ℕ → ℕ → ℕ → ℕ → Reader
+by21 frames names entries index size =
+    record { frames = frames; names = names; entries = entries; index = index; namelist = 320; size = size; version = version21 }
+
+-- frame 0 and the first name, asked in each way
+unfoldable pub firstBy : Reader → List ℕ → List ℕ
+firstBy r img =
+    toldEntry (lookupBy r img 0 (ascii "probe")) ++ toldEntry (findBy r img 0 0) ++ toldEntry (newestBy r img 0 0)
+    ++ toldEntry (entryBy r img 0) ++ toldPlace (chunkPlaceBy r img 0 (ascii "probe")) ++ toldPlace (nameBy r img 0)
+    ++ toldId (idBy r img (ascii "probe"))
+
+-- what sheet B adds
+unfoldable pub nextBy : Reader → List ℕ → List ℕ
+nextBy r img =
+    listedNumber (lookupBy r img 1 (ascii "probe")) ∷ listedNumber (lookupBy r img 0 (ascii "heater")) ∷ listedNumber (findBy r img 0 1)
+    ∷ listedNumber (newestBy r img 0 1) ∷ listedNumber (entryBy r img 1) ∷ placeNumber (nameBy r img 1)
+    ∷ identNumber (idBy r img (ascii "heater")) ∷ []
+
+-- the newest entry's number and place
+unfoldable pub newestIn : Reader → List ℕ → ℕ → ℕ → List ℕ
+newestIn r img frame id = let e : Listed = newestBy r img frame id in listedNumber e ∷ take 3 (listedValues e)
+
+-- a reader answers as of its moment, from the bytes that are there
+unfoldable pub readers : List Case
+readers =
+    let x : List ℕ = freshIn 704 in
+    let a : List ℕ = appended x sheetA 23 in
+    let b34 : List ℕ = appended a sheetB 34 in
+    let b42 : List ℕ = appended a sheetB 42 in
+    let b : List ℕ = appended a sheetB 43 in
+    let r : Reader = by21 1 1 1 256 6 in
+    let whole : Reader = by21 2 2 3 576 13 in
+    let entry : List ℕ = 0 ∷ 0 ∷ 3 ∷ 384 ∷ 1 ∷ 0 ∷ 9 ∷ 0 ∷ [] in
+    let first : List ℕ = entry ++ entry ++ entry ++ entry ++ 0 ∷ 384 ∷ 12 ∷ 0 ∷ 320 ∷ 5 ∷ 0 ∷ 0 ∷ [] in
+    let next : List ℕ = 40 ∷ 41 ∷ 41 ∷ 41 ∷ 44 ∷ 44 ∷ 41 ∷ [] in
+    let early : List Entry = byte 1 3 ∷ byte 1 0 ∷ byte 4 2 ∷ byte 4 0 ∷ byte 6 1 ∷ [] in
+    let old : List ℕ = image10 four early in
+    let by10 : Reader = record { frames = 7; names = 4; entries = 5; index = 256; namelist = 448; size = 256; version = version10 } in
+    record {
+      says = "the reader of a fresh image, of sheet A's after 22 stores, and after 23";
+      got = readerIn x ++ readerIn (appended x sheetA 22) ++ readerIn a;
+      expected = 0 ∷ 0 ∷ 0 ∷ 0 ∷ 256 ∷ 320 ∷ 0 ∷ 0x00020001 ∷ 0 ∷ 0 ∷ 0 ∷ 1 ∷ 0 ∷ 256 ∷ 320 ∷ 6 ∷ 0x00020001 ∷ 0
+          ∷ 0 ∷ 1 ∷ 1 ∷ 1 ∷ 256 ∷ 320 ∷ 6 ∷ 0x00020001 ∷ 0 ∷ [];
+    }
+    ∷ record {
+      says = "of sheet B's after 34, 42 and 43: the index has moved, and the frame is there with the last store";
+      got = readerIn b34 ++ readerIn b42 ++ readerIn b;
+      expected = 0 ∷ 1 ∷ 2 ∷ 1 ∷ 576 ∷ 320 ∷ 13 ∷ 0x00020001 ∷ 0 ∷ 0 ∷ 1 ∷ 2 ∷ 1 ∷ 576 ∷ 320 ∷ 13 ∷ 0x00020001 ∷ 0
+          ∷ 0 ∷ 2 ∷ 2 ∷ 3 ∷ 576 ∷ 320 ∷ 13 ∷ 0x00020001 ∷ 0 ∷ [];
+    }
+    ∷ record {
+      says = "that of 23 stores of A: what it has, then, after 34 stores of B and after all";
+      got = firstBy r a ++ firstBy r b34 ++ firstBy r b;
+      expected = first ++ first ++ first;
+    }
+    ∷ record {
+      says = "and what it does not have: 40, 41, 44";
+      got = nextBy r a ++ nextBy r b34 ++ nextBy r b;
+      expected = next ++ next ++ next;
+    }
+    ∷ record {
+      says = "that of 22 stores, after B: the name and no frame";
+      got = firstBy (by21 0 1 0 256 6) b;
+      expected = 40 ∷ 40 ∷ 40 ∷ 44 ∷ 40 ∷ 0 ∷ 320 ∷ 5 ∷ 0 ∷ 0 ∷ [];
+    }
+    ∷ record {
+      says = "B's: the newest in its frame, in an older one where the word says that there are more, and in none";
+      got = newestIn whole b 1 0 ++ newestIn whole b 0 0 ++ newestIn (by21 4 2 3 576 13) b 3 1 ++ newestIn whole b 0 1 ++ newestIn whole b 2 0;
+      expected = 0 ∷ 1 ∷ 3 ∷ 448 ∷ 0 ∷ 0 ∷ 3 ∷ 384 ∷ 0 ∷ 1 ∷ 1 ∷ 512 ∷ 42 ∷ 40 ∷ [];
+    }
+    ∷ record {
+      says = "a word one too great: 33; the greatest fit, and what stands there is shown";
+      got = map (λ q. listedNumber (entryBy q b 13)) (by21 2 2 14 256 6 ∷ by21 2 2 15 256 6 ∷ by21 2 2 14 257 6 ∷ [])
+          ++ map (λ q. placeNumber (nameBy q b 1)) (by21 2 1024 3 576 384 ∷ by21 2 1025 3 576 384 ∷ by21 2 2 3 576 385 ∷ by21 2 2 3 576 12 ∷ []);
+      expected = 0 ∷ 33 ∷ 33 ∷ 0 ∷ 33 ∷ 33 ∷ 44 ∷ [];
+    }
+    ∷ record {
+      says = "1.0: the reader, and the newest at and between frames whose ids are in no order";
+      got = readerIn old ++ newestIn by10 old 1 3 ++ newestIn by10 old 3 0 ++ newestIn by10 old 4 0 ++ newestIn by10 old 6 2 ++ newestIn by10 old 5 1;
+      expected = 0 ∷ 7 ∷ 4 ∷ 5 ∷ 256 ∷ 448 ∷ 256 ∷ 0x00010000 ∷ 0
+          ∷ 0 ∷ 1 ∷ 1 ∷ 707 ∷ 0 ∷ 1 ∷ 1 ∷ 704 ∷ 0 ∷ 4 ∷ 1 ∷ 704 ∷ 0 ∷ 4 ∷ 1 ∷ 706 ∷ 42 ∷ [];
     }
     ∷ []
 

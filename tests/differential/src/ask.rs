@@ -1,6 +1,6 @@
 //! The calls with answers as `Result`s, for tests that hold a library to the paper directly.
 
-use crate::library::{Create, Library, State, STATE_WORDS};
+use crate::library::{Create, Library, Reader, State, READER_WORDS, STATE_WORDS};
 
 pub type Answer<T> = Result<T, u64>;
 
@@ -91,6 +91,18 @@ pub trait Ask: Library {
     /// How many stores the turn made.
     fn go_on(&self, state: &mut State, image: &mut [u8], sheet: &[u8], limit: u64) -> Answer<u64> {
         answer(|out| self.turn(state, image, sheet, limit, out)).map(|[made]| made)
+    }
+
+    /// A reader of the image; a refusal leaves the words that were there.
+    fn reader(&self, image: &[u8]) -> Answer<Reader> {
+        let mut reader = [0x5555; READER_WORDS];
+        match self.reader_open(image, &mut reader) {
+            0 => Ok(reader),
+            number => {
+                assert_eq!(reader, [0x5555; READER_WORDS], "a refusal wrote the reader");
+                Err(number)
+            }
+        }
     }
 
     /// What the listing program prints.

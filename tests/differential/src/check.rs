@@ -2,7 +2,9 @@
 
 use crate::images::{around, frames_to_ask, Row};
 use crate::lent::{Flush, Lent};
-use crate::library::{Create, Library, Reference, State, REFUSED, STATE_WORDS};
+use crate::library::{
+    Create, Library, Reader, Reference, State, READER_WORDS, REFUSED, STATE_WORDS,
+};
 use crate::random::Rng;
 use std::collections::BTreeMap;
 use std::fmt::Write;
@@ -44,6 +46,7 @@ pub struct Check<'l> {
     /// A second copy of the image, for the append as one call.
     joined: Lent,
     state: Lent,
+    reader: Lent,
     ours: Vec<u8>,
     before: Vec<u8>,
     flush: Flush,
@@ -68,6 +71,7 @@ impl<'l> Check<'l> {
             second: Lent::new(1 << 10),
             joined: Lent::new(1 << 16),
             state: Lent::new(8 * STATE_WORDS),
+            reader: Lent::new(8 * READER_WORDS),
             ours: Vec::new(),
             before: Vec::new(),
             flush: Flush::End,
@@ -139,10 +143,12 @@ impl<'l> Check<'l> {
         }
     }
 
+    /// Opens the image, and a reader of it with the same number.
     pub fn open(&mut self) -> Option<[u64; 3]> {
         let (mut theirs, mut ours) = (Out::<3>::new(), Out::new());
         let number = self.library.open(self.theirs.bytes(), &mut theirs.numbers);
         let expected = Reference.open(&self.ours, &mut ours.numbers);
+        self.reader_open();
         self.judge((number, theirs), (expected, ours), || "open".into())
     }
 
@@ -336,6 +342,168 @@ impl<'l> Check<'l> {
         self.kept_around(sheet, &out);
         if self.theirs.bytes() != before {
             self.fail(|| "an append with limit 0 stored".into());
+        }
+    }
+
+    pub fn reader_open(&mut self) -> Option<Reader> {
+        let mut ours = Out::new();
+        let lent = self.reader.lend_words(&[BEFORE; READER_WORDS], self.flush);
+        let number = self.library.reader_open(self.theirs.bytes(), lent);
+        let theirs = Out::of(*lent);
+        let expected = Reference.reader_open(&self.ours, &mut ours.numbers);
+        if !self.reader.margin_kept() {
+            self.fail(|| "reader_open wrote beside the reader".into());
+        }
+        self.judge((number, theirs), (expected, ours), || "reader_open".into())
+    }
+
+    pub fn reader_name(&mut self, reader: &Reader, n: u64) -> Option<[u64; 2]> {
+        let (mut theirs, mut ours) = (Out::<2>::new(), Out::new());
+        let lent = self.reader.lend_words(reader, self.flush);
+        let number = self.library.reader_name(lent, self.theirs.bytes(), n, &mut theirs.numbers);
+        self.reader_kept(reader);
+        let expected = Reference.reader_name(reader, &self.ours, n, &mut ours.numbers);
+        self.judge((number, theirs), (expected, ours), || format!("{reader:?} name {n}"))
+    }
+
+    pub fn reader_entry(&mut self, reader: &Reader, n: u64) -> Option<[u64; 7]> {
+        let (mut theirs, mut ours) = (Out::<7>::new(), Out::new());
+        let lent = self.reader.lend_words(reader, self.flush);
+        let number = self.library.reader_entry(lent, self.theirs.bytes(), n, &mut theirs.numbers);
+        self.reader_kept(reader);
+        let expected = Reference.reader_entry(reader, &self.ours, n, &mut ours.numbers);
+        self.judge((number, theirs), (expected, ours), || format!("{reader:?} entry {n}"))
+    }
+
+    pub fn reader_lookup(&mut self, reader: &Reader, frame: u64, name: &[u8]) -> Option<[u64; 7]> {
+        let (mut theirs, mut ours) = (Out::<7>::new(), Out::new());
+        let (lent, text) =
+            (self.reader.lend_words(reader, self.flush), self.argument.lend(name, self.flush));
+        let image = self.theirs.bytes();
+        let number = self.library.reader_lookup(lent, image, frame, text, &mut theirs.numbers);
+        self.reader_kept(reader);
+        self.argument_kept(name);
+        let expected = Reference.reader_lookup(reader, &self.ours, frame, name, &mut ours.numbers);
+        let call = || format!("{reader:?} lookup frame {frame} name {}", hex(name));
+        self.judge((number, theirs), (expected, ours), call)
+    }
+
+    pub fn reader_chunk(&mut self, reader: &Reader, frame: u64, name: &[u8]) -> Option<[u64; 2]> {
+        let (mut theirs, mut ours) = (Out::<2>::new(), Out::new());
+        let (lent, text) =
+            (self.reader.lend_words(reader, self.flush), self.argument.lend(name, self.flush));
+        let image = self.theirs.bytes();
+        let number = self.library.reader_chunk(lent, image, frame, text, &mut theirs.numbers);
+        self.reader_kept(reader);
+        self.argument_kept(name);
+        let expected = Reference.reader_chunk(reader, &self.ours, frame, name, &mut ours.numbers);
+        let call = || format!("{reader:?} chunk frame {frame} name {}", hex(name));
+        self.judge((number, theirs), (expected, ours), call)
+    }
+
+    pub fn reader_element(
+        &mut self,
+        reader: &Reader,
+        frame: u64,
+        name: &[u8],
+        k: u64,
+    ) -> Option<[u64; 2]> {
+        let (mut theirs, mut ours) = (Out::<2>::new(), Out::new());
+        let (lent, text) =
+            (self.reader.lend_words(reader, self.flush), self.argument.lend(name, self.flush));
+        let image = self.theirs.bytes();
+        let number = self.library.reader_element(lent, image, frame, text, k, &mut theirs.numbers);
+        self.reader_kept(reader);
+        self.argument_kept(name);
+        let expected =
+            Reference.reader_element(reader, &self.ours, frame, name, k, &mut ours.numbers);
+        let call = || format!("{reader:?} element frame {frame} name {} k {k}", hex(name));
+        self.judge((number, theirs), (expected, ours), call)
+    }
+
+    pub fn reader_id(&mut self, reader: &Reader, name: &[u8]) -> Option<[u64; 1]> {
+        let (mut theirs, mut ours) = (Out::<1>::new(), Out::new());
+        let (lent, text) =
+            (self.reader.lend_words(reader, self.flush), self.argument.lend(name, self.flush));
+        let number = self.library.reader_id(lent, self.theirs.bytes(), text, &mut theirs.numbers);
+        self.reader_kept(reader);
+        self.argument_kept(name);
+        let expected = Reference.reader_id(reader, &self.ours, name, &mut ours.numbers);
+        self.judge((number, theirs), (expected, ours), || format!("{reader:?} id {}", hex(name)))
+    }
+
+    pub fn reader_find(&mut self, reader: &Reader, frame: u64, id: u64) -> Option<[u64; 7]> {
+        let (mut theirs, mut ours) = (Out::<7>::new(), Out::new());
+        let lent = self.reader.lend_words(reader, self.flush);
+        let image = self.theirs.bytes();
+        let number = self.library.reader_find(lent, image, frame, id, &mut theirs.numbers);
+        self.reader_kept(reader);
+        let expected = Reference.reader_find(reader, &self.ours, frame, id, &mut ours.numbers);
+        let call = || format!("{reader:?} find frame {frame} id {id}");
+        self.judge((number, theirs), (expected, ours), call)
+    }
+
+    pub fn reader_newest(&mut self, reader: &Reader, frame: u64, id: u64) -> Option<[u64; 7]> {
+        let (mut theirs, mut ours) = (Out::<7>::new(), Out::new());
+        let lent = self.reader.lend_words(reader, self.flush);
+        let image = self.theirs.bytes();
+        let number = self.library.reader_newest(lent, image, frame, id, &mut theirs.numbers);
+        self.reader_kept(reader);
+        let expected = Reference.reader_newest(reader, &self.ours, frame, id, &mut ours.numbers);
+        let call = || format!("{reader:?} newest frame {frame} id {id}");
+        self.judge((number, theirs), (expected, ours), call)
+    }
+
+    /// Every call through a reader, for these frames, names and ids, and beside what its words count.
+    pub fn read_through(
+        &mut self,
+        reader: &Reader,
+        frames: &[u64],
+        names: &[Vec<u8>],
+        ids: &[u64],
+    ) {
+        let near = |count: u64| {
+            let last = [count.wrapping_sub(1), count, count.wrapping_add(1), 1 << 32, u64::MAX];
+            (0..count.min(8)).chain(last)
+        };
+        for n in near(reader[1]) {
+            self.reader_name(reader, n);
+        }
+        for n in near(reader[2]) {
+            self.reader_entry(reader, n);
+        }
+        for name in names {
+            self.reader_id(reader, name);
+        }
+        for &frame in frames {
+            for name in names {
+                let found = self.reader_lookup(reader, frame, name);
+                self.reader_chunk(reader, frame, name);
+                // Where nothing is found one element will do.
+                let elements = found.map_or(vec![0], |entry| {
+                    let count = entry[1].wrapping_mul(entry[3]);
+                    vec![0, count.wrapping_sub(1), count, (1 << 61) + 1]
+                });
+                for k in elements {
+                    self.reader_element(reader, frame, name, k);
+                }
+            }
+            for &id in ids {
+                self.reader_find(reader, frame, id);
+                self.reader_newest(reader, frame, id);
+            }
+        }
+        if self.theirs.bytes() != self.ours || !self.theirs.margin_kept() {
+            let image = hex(&self.ours);
+            self.fail(|| format!("{reader:?}: a call wrote the image\n  image {image}"));
+        }
+    }
+
+    /// No call but its opening writes a reader.
+    fn reader_kept(&mut self, reader: &Reader) {
+        let words = reader.map(u64::to_ne_bytes);
+        if self.reader.bytes() != words.as_flattened() || !self.reader.margin_kept() {
+            self.fail(|| format!("a call wrote the reader {reader:?}"));
         }
     }
 

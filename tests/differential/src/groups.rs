@@ -11,6 +11,7 @@ use crate::images::{
 use crate::library::{Create, Library, Reference, STATE_WORDS};
 use crate::moving::{self, Moving};
 use crate::random::Rng;
+use crate::readers;
 use crate::turns;
 
 pub struct Group {
@@ -56,6 +57,9 @@ pub const GROUPS: &[Group] = &[
     group("appends in turns", 20_000, turns::under_premise),
     group("turns between which others write", 20_000, turns::without_premise),
     group("turns on torn and swapped states", 20_000, turns::torn_states),
+    group("readers of images as they are", 8000, readers::as_they_are),
+    group("readers of earlier moments", 800, readers::of_earlier_moments),
+    group("any words as a reader", 6000, readers::any_words),
 ];
 
 /// Every call once, on whatever the image is.
@@ -631,6 +635,26 @@ fn longest(check: &mut Check, _: &mut Rng) {
             let (mut x, mut y) = ([5; 3], [5; 3]);
             let (a, b) = (library.open(theirs, &mut x), Reference.open(ours, &mut y));
             both(check, "open", (a, &x), (b, &y));
+            // One that is opened, or as it would be.
+            let mut reader = [1, 2, 2, index as u64, names as u64, 128, version.into(), 0];
+            if version != V1_0 {
+                reader[5] = 4;
+            }
+            let (mut x, mut y) = (reader, reader);
+            let (a, b) = (library.reader_open(theirs, &mut x), Reference.reader_open(ours, &mut y));
+            both(check, "reader_open", (a, &x), (b, &y));
+            for frame in [0, 1] {
+                let (mut x, mut y) = ([5; 7], [5; 7]);
+                let a = library.reader_newest(&reader, theirs, frame, 0, &mut x);
+                let b = Reference.reader_newest(&reader, ours, frame, 0, &mut y);
+                both(check, "reader_newest", (a, &x), (b, &y));
+            }
+            for last in [(index - 257) as u64, (index - 256) as u64] {
+                let (mut x, mut y) = ([5; 2], [5; 2]);
+                let a = library.reader_element(&reader, theirs, 0, b"a", last, &mut x);
+                let b = Reference.reader_element(&reader, ours, 0, b"a", last, &mut y);
+                both(check, "reader_element", (a, &x), (b, &y));
+            }
             let (mut x, mut y) = ([5; 2], [5; 2]);
             let a = library.chunk(theirs, 0, b"a", &mut x);
             let b = Reference.chunk(ours, 0, b"a", &mut y);

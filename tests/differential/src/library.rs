@@ -2,17 +2,21 @@
 
 use crate::reference::{self, Answer, Element, Entry, Probes};
 
-pub use crate::reference::STATE_WORDS;
+pub use crate::reference::{READER_WORDS, STATE_WORDS};
 
 /// The state of an append in turns. Each library has its own form of it.
 pub type State = [u64; STATE_WORDS];
 
+/// What an image lists at a moment: frames, names, entries, where the index and the list of names
+/// start, the list's bytes, the version, and 0. Its words are the same of every library.
+pub type Reader = [u64; READER_WORDS];
+
 /// A refused beginning's state.
 pub const REFUSED: State = [0; STATE_WORDS];
 
-/// The result is the number of the refusal, 0 for an answer. A refusal leaves `out` as it was, but
-/// for those of probes, append, begin and turn, which are set at every call: to zeros by a refusal of
-/// the last three.
+/// The result is the number of the refusal, 0 for an answer. A refusal leaves `out`, or the reader
+/// that is opened, as it was, but for those of probes, append, begin and turn, which are set at every
+/// call: to zeros by a refusal of the last three.
 pub trait Library: Sync {
     /// `out`: frames, names, entries.
     fn open(&self, image: &[u8], out: &mut [u64; 3]) -> u64;
@@ -41,6 +45,59 @@ pub trait Library: Sync {
         sheet: &[u8],
         limit: u64,
         out: &mut [u64; 1],
+    ) -> u64;
+    fn reader_open(&self, image: &[u8], reader: &mut Reader) -> u64;
+    /// `out`: start, length.
+    fn reader_name(&self, reader: &Reader, image: &[u8], n: u64, out: &mut [u64; 2]) -> u64;
+    /// `out`: as `entry`.
+    fn reader_entry(&self, reader: &Reader, image: &[u8], n: u64, out: &mut [u64; 7]) -> u64;
+    /// `out`: as `entry`.
+    fn reader_lookup(
+        &self,
+        reader: &Reader,
+        image: &[u8],
+        frame: u64,
+        name: &[u8],
+        out: &mut [u64; 7],
+    ) -> u64;
+    /// `out`: start, length.
+    fn reader_chunk(
+        &self,
+        reader: &Reader,
+        image: &[u8],
+        frame: u64,
+        name: &[u8],
+        out: &mut [u64; 2],
+    ) -> u64;
+    /// `out`: kind, bits.
+    fn reader_element(
+        &self,
+        reader: &Reader,
+        image: &[u8],
+        frame: u64,
+        name: &[u8],
+        k: u64,
+        out: &mut [u64; 2],
+    ) -> u64;
+    /// `out`: the id.
+    fn reader_id(&self, reader: &Reader, image: &[u8], name: &[u8], out: &mut [u64; 1]) -> u64;
+    /// `out`: as `entry`.
+    fn reader_find(
+        &self,
+        reader: &Reader,
+        image: &[u8],
+        frame: u64,
+        id: u64,
+        out: &mut [u64; 7],
+    ) -> u64;
+    /// Of the newest frame at or below this one. `out`: as `entry`.
+    fn reader_newest(
+        &self,
+        reader: &Reader,
+        image: &[u8],
+        frame: u64,
+        id: u64,
+        out: &mut [u64; 7],
     ) -> u64;
 }
 
@@ -71,6 +128,15 @@ fn fields(e: Entry) -> [u64; 7] {
     [e.frame, e.n, e.location, e.m.into(), e.id.into(), e.kind.into(), e.flags.into()]
 }
 
+fn kind_and_bits(element: Element) -> [u64; 2] {
+    match element {
+        Element::Unsigned(number) => [1, number],
+        Element::Signed(number) => [2, number as u64],
+        Element::Single(bits) => [3, bits.into()],
+        Element::Double(bits) => [4, bits],
+    }
+}
+
 /// Start and length of a part of the image.
 fn place(image: &[u8], part: &[u8]) -> [u64; 2] {
     [(part.as_ptr().addr() - image.as_ptr().addr()) as u64, part.len() as u64]
@@ -98,13 +164,7 @@ impl Library for Reference {
     }
 
     fn element(&self, image: &[u8], frame: u64, name: &[u8], k: u64, out: &mut [u64; 2]) -> u64 {
-        let numbers = reference::element(image, frame, name, k).map(|element| match element {
-            Element::Unsigned(number) => [1, number],
-            Element::Signed(number) => [2, number as u64],
-            Element::Single(bits) => [3, bits.into()],
-            Element::Double(bits) => [4, bits],
-        });
-        give(numbers, out)
+        give(reference::element(image, frame, name, k).map(kind_and_bits), out)
     }
 
     fn probes(&self, image: &[u8], frame: u64, name: &[u8], out: &mut [u64; 1]) -> u64 {
@@ -148,6 +208,81 @@ impl Library for Reference {
         *out = [0];
         give(made, out)
     }
+
+    fn reader_open(&self, image: &[u8], reader: &mut Reader) -> u64 {
+        give(reference::Reader::open(image).map(reference::Reader::words), reader)
+    }
+
+    fn reader_name(&self, reader: &Reader, image: &[u8], n: u64, out: &mut [u64; 2]) -> u64 {
+        let reader = reference::Reader::of(*reader);
+        give(reader.name(image, n).map(|part| place(image, part)), out)
+    }
+
+    fn reader_entry(&self, reader: &Reader, image: &[u8], n: u64, out: &mut [u64; 7]) -> u64 {
+        give(reference::Reader::of(*reader).entry(image, n).map(fields), out)
+    }
+
+    fn reader_lookup(
+        &self,
+        reader: &Reader,
+        image: &[u8],
+        frame: u64,
+        name: &[u8],
+        out: &mut [u64; 7],
+    ) -> u64 {
+        give(reference::Reader::of(*reader).lookup(image, frame, name).map(fields), out)
+    }
+
+    fn reader_chunk(
+        &self,
+        reader: &Reader,
+        image: &[u8],
+        frame: u64,
+        name: &[u8],
+        out: &mut [u64; 2],
+    ) -> u64 {
+        let reader = reference::Reader::of(*reader);
+        give(reader.chunk(image, frame, name).map(|part| place(image, part)), out)
+    }
+
+    fn reader_element(
+        &self,
+        reader: &Reader,
+        image: &[u8],
+        frame: u64,
+        name: &[u8],
+        k: u64,
+        out: &mut [u64; 2],
+    ) -> u64 {
+        let reader = reference::Reader::of(*reader);
+        give(reader.element(image, frame, name, k).map(kind_and_bits), out)
+    }
+
+    fn reader_id(&self, reader: &Reader, image: &[u8], name: &[u8], out: &mut [u64; 1]) -> u64 {
+        give(reference::Reader::of(*reader).id(image, name).map(|id| [id]), out)
+    }
+
+    fn reader_find(
+        &self,
+        reader: &Reader,
+        image: &[u8],
+        frame: u64,
+        id: u64,
+        out: &mut [u64; 7],
+    ) -> u64 {
+        give(reference::Reader::of(*reader).find(image, frame, id).map(fields), out)
+    }
+
+    fn reader_newest(
+        &self,
+        reader: &Reader,
+        image: &[u8],
+        frame: u64,
+        id: u64,
+        out: &mut [u64; 7],
+    ) -> u64 {
+        give(reference::Reader::of(*reader).newest(image, frame, id).map(fields), out)
+    }
 }
 
 /// libdialmoth.a.
@@ -156,7 +291,7 @@ pub struct Linked;
 
 #[cfg(linked)]
 mod linked {
-    use super::{Create, Library, Linked, State};
+    use super::{Create, Library, Linked, Reader, State};
     use dialmoth::ffi;
 
     // Pointers and lengths are those of live slices.
@@ -239,6 +374,95 @@ mod linked {
             let (image, length) = (image.as_mut_ptr(), image.len());
             let (sheet, sheet_length) = (sheet.as_ptr(), sheet.len());
             unsafe { ffi::dialmoth_turn(state, image, length, sheet, sheet_length, limit, out) }
+        }
+
+        fn reader_open(&self, image: &[u8], reader: &mut Reader) -> u64 {
+            unsafe { ffi::dialmoth_reader_open(image.as_ptr(), image.len(), reader) }
+        }
+
+        fn reader_name(&self, reader: &Reader, image: &[u8], n: u64, out: &mut [u64; 2]) -> u64 {
+            unsafe { ffi::dialmoth_reader_name(reader, image.as_ptr(), image.len(), n, out) }
+        }
+
+        fn reader_entry(&self, reader: &Reader, image: &[u8], n: u64, out: &mut [u64; 7]) -> u64 {
+            unsafe { ffi::dialmoth_reader_entry(reader, image.as_ptr(), image.len(), n, out) }
+        }
+
+        fn reader_lookup(
+            &self,
+            reader: &Reader,
+            image: &[u8],
+            frame: u64,
+            name: &[u8],
+            out: &mut [u64; 7],
+        ) -> u64 {
+            let (image, length) = (image.as_ptr(), image.len());
+            let (name, name_length) = (name.as_ptr(), name.len());
+            unsafe {
+                ffi::dialmoth_reader_lookup(reader, image, length, frame, name, name_length, out)
+            }
+        }
+
+        fn reader_chunk(
+            &self,
+            reader: &Reader,
+            image: &[u8],
+            frame: u64,
+            name: &[u8],
+            out: &mut [u64; 2],
+        ) -> u64 {
+            let (image, length) = (image.as_ptr(), image.len());
+            let (name, name_length) = (name.as_ptr(), name.len());
+            unsafe {
+                ffi::dialmoth_reader_chunk(reader, image, length, frame, name, name_length, out)
+            }
+        }
+
+        fn reader_element(
+            &self,
+            reader: &Reader,
+            image: &[u8],
+            frame: u64,
+            name: &[u8],
+            k: u64,
+            out: &mut [u64; 2],
+        ) -> u64 {
+            let (image, length) = (image.as_ptr(), image.len());
+            let (name, size) = (name.as_ptr(), name.len());
+            unsafe {
+                ffi::dialmoth_reader_element(reader, image, length, frame, name, size, k, out)
+            }
+        }
+
+        fn reader_id(&self, reader: &Reader, image: &[u8], name: &[u8], out: &mut [u64; 1]) -> u64 {
+            let (image, length) = (image.as_ptr(), image.len());
+            unsafe {
+                ffi::dialmoth_reader_id(reader, image, length, name.as_ptr(), name.len(), out)
+            }
+        }
+
+        fn reader_find(
+            &self,
+            reader: &Reader,
+            image: &[u8],
+            frame: u64,
+            id: u64,
+            out: &mut [u64; 7],
+        ) -> u64 {
+            let (image, length) = (image.as_ptr(), image.len());
+            unsafe { ffi::dialmoth_reader_find(reader, image, length, frame, id, out) }
+        }
+
+        fn reader_newest(
+            &self,
+            reader: &Reader,
+            image: &[u8],
+            frame: u64,
+            id: u64,
+            out: &mut [u64; 7],
+        ) -> u64 {
+            let (image, length) = (image.as_ptr(), image.len());
+            unsafe { ffi::dialmoth_reader_newest(reader, image, length, frame, id, out) }
         }
     }
 }

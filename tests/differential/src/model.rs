@@ -4,8 +4,10 @@
 //! It stands in for the library where there is no archive, and it can be told to make a hurried
 //! builder's [`Fault`], so that the tests can be tested: each must be noticed.
 
+mod reader;
+
 use crate::images::listed;
-use crate::library::{Create, Library, State, REFUSED};
+use crate::library::{Create, Library, Reader, State, REFUSED};
 use std::cell::RefCell;
 use std::collections::{BTreeSet, VecDeque};
 use std::ops::Range;
@@ -301,6 +303,106 @@ faults! {
     TableReadAgain,
     NamesReadAgain,
     EntriesReadAgain,
+    ReaderRefusedOpenClears,
+    ReaderSizeOfBlock,
+    ReaderSizeWithoutLastZero,
+    ReaderSizeIsPlace,
+    ReaderRunningSizeIn1_0,
+    ReaderCountsSlots,
+    ReaderVersionOfEightBytes,
+    ReaderKeepsLastWord,
+    ReaderOpensAgain,
+    ReaderVersionIn32Bits,
+    ReaderVersionUnknownIs2_1,
+    ReaderLastWordTested,
+    ReaderSlotsWrap,
+    ReaderIndexEndWraps,
+    ReaderListEndWraps,
+    ReaderNamesUpTo1023,
+    ReaderNamesUpTo1025,
+    ReaderNamesNotTested,
+    ReaderShortImageRefused,
+    ReaderIndexEndInside,
+    ReaderListEndInside,
+    ReaderPlacesFrom256,
+    ReaderBlocksApart,
+    ReaderFramesNeedEntries,
+    ReaderHeaderCompared,
+    ReaderVersionOfImage,
+    ReaderEntriesOfImage,
+    ReaderFramesOfImage,
+    ReaderIndexOfImage,
+    ReaderNamelistOfImage,
+    ReaderNamesOfImage,
+    ReaderGrownImageRefused,
+    ReaderSlotsEndAtZero,
+    ReaderRunningNamesIn1_0,
+    ReaderSegmentNamesIn2_0,
+    ReaderNamesNotCounted,
+    ReaderListNotCut,
+    ReaderEmptyNameSkipped,
+    ReaderEmptyNameListed,
+    ReaderUnclosedNameListed,
+    ReaderSegmentsRoundedUp,
+    ReaderEmptySegmentSkipped,
+    ReaderFullSegmentEndsList,
+    ReaderFullSegmentCut,
+    ReaderNthNameByCount,
+    ReaderNthIn32Bits,
+    ReaderEntryMustHold,
+    ReaderStartOfNameFound,
+    ReaderLongerNameFound,
+    ReaderNameLengthsIn8Bits,
+    ReaderLastEqualName,
+    ReaderEmptyNameFound,
+    FindByListedNames,
+    FindAnyId,
+    ReaderFortyOneFirst,
+    FindIdIn16Bits,
+    FindBehindLastFrame,
+    FoundMustHold,
+    ReaderLookupMustHold,
+    ReaderGoesThroughSlots,
+    ReaderHalvesToIdIn1_0,
+    ReaderHalvesToFrame,
+    ReaderWalksIn2,
+    ReaderWalkGoesOn,
+    ReaderWalkOneShort,
+    ReaderLocationZeroIsNone,
+    ReaderKeyWraps,
+    ReaderMiddleBelow,
+    NewestOfLastFrame,
+    NewestBelowFrame,
+    NewestBelowId,
+    NewestToIdIn1_0,
+    NewestToFrameIn2,
+    NewestIsOldest,
+    NewestIsNeighbour,
+    NewestFromPlaceItself,
+    NewestOfFrameAlone,
+    NewestInEmptyFrameIsNone,
+    NewestGoesThroughSlots,
+    NewestIsGreatest,
+    NewestMustHold,
+    ReaderTypeByImage,
+    ReaderCharacterIn2_0,
+    ReaderCharacterIn1_0,
+    ReaderCharacterNever,
+    ReaderTypeNotTested,
+    ReaderChunkSizeWraps,
+    ReaderChunkEndWraps,
+    ReaderChunkNotTested,
+    ReaderChunkEndInside,
+    ReaderChunkStartTested,
+    ReaderEmptyChunkAnywhere,
+    ReaderChunkFrom256,
+    ReaderFortyThreeFirst,
+    ReaderRefusedChunkWrites,
+    ReaderFortyFirst,
+    ReaderFortyFourFirst,
+    ReaderRefusalClearsOut,
+    OldNamesCleared,
+    OldIndexCleared,
 }
 
 pub struct Model {
@@ -1605,6 +1707,9 @@ impl Model {
             stores.extend(gaps.next().unwrap());
             fill(&mut stores, block.0, 64 * block.1 as usize, old_list);
             header(&mut stores, 24, block);
+            if self.has(Fault::OldNamesCleared) {
+                fill(&mut stores, view.names_at, 64 * view.segments as usize, &[]);
+            }
             names_at = block.0;
         }
 
@@ -1645,6 +1750,9 @@ impl Model {
             }
             fill(&mut stores, block.0, 32 * block.1 as usize, &old);
             header(&mut stores, 8, block);
+            if self.has(Fault::OldIndexCleared) {
+                fill(&mut stores, view.index, 32 * listed, &[]);
+            }
             index = block.0;
         }
         let step_5 = before_5..stores.len();
@@ -1830,6 +1938,39 @@ impl Model {
         bits | u64::from(quieted) << (format.fraction - 1)
     }
 
+    /// Kind and bits of element k of a chunk.
+    fn element_of(&self, image: &[u8], entry: &Listed, k: u64) -> Verdict<[u64; 2]> {
+        let size = width(entry.kind);
+        let k = u128::from(k);
+        let wraps = self.has(Fault::ElementPlaceWraps);
+        let inside =
+            if wraps { (k * size) % (1 << 64) < entry.length() } else { k < entry.n * entry.m };
+        if !inside {
+            return Err(43);
+        }
+        let at = entry.location as usize + ((k * size) % (1 << 64)) as usize;
+        let unsigned = number(image, at, size as usize) as u64;
+        let unused = 64 - 8 * size as u32;
+        let signed = ((unsigned << unused) as i64 >> unused) as u64;
+        let signed = if self.has(Fault::SignedNotExtended) { unsigned } else { signed };
+        // "A character element is an unsigned number."
+        Ok(match entry.kind {
+            11 if self.has(Fault::CharacterSigned) => [2, signed],
+            1..=4 | 11 => [1, unsigned],
+            5..=8 => [2, signed],
+            9 => [3, self.read_bits(FLOAT, unsigned)],
+            _ => [4, self.read_bits(DOUBLE, unsigned)],
+        })
+    }
+
+    /// What a call through a reader answers.
+    fn give_read<const K: usize>(&self, answer: Verdict<[u64; K]>, out: &mut [u64; K]) -> u64 {
+        if answer.is_err() && self.has(Fault::ReaderRefusalClearsOut) {
+            *out = [0; K];
+        }
+        self.give(answer, out)
+    }
+
     fn give<const K: usize>(&self, answer: Verdict<[u64; K]>, out: &mut [u64; K]) -> u64 {
         match answer {
             Ok(numbers) => {
@@ -1885,30 +2026,8 @@ impl Library for Model {
     }
 
     fn element(&self, image: &[u8], frame: u64, name: &[u8], k: u64, out: &mut [u64; 2]) -> u64 {
-        let element = self.found(image, frame, name).and_then(|entry| {
-            let size = width(entry.kind);
-            let k = u128::from(k);
-            let wraps = self.has(Fault::ElementPlaceWraps);
-            let inside =
-                if wraps { (k * size) % (1 << 64) < entry.length() } else { k < entry.n * entry.m };
-            if !inside {
-                return Err(43);
-            }
-            let at = entry.location as usize + ((k * size) % (1 << 64)) as usize;
-            let unsigned = number(image, at, size as usize) as u64;
-            let unused = 64 - 8 * size as u32;
-            let signed = ((unsigned << unused) as i64 >> unused) as u64;
-            let signed = if self.has(Fault::SignedNotExtended) { unsigned } else { signed };
-            // "A character element is an unsigned number."
-            Ok(match entry.kind {
-                11 if self.has(Fault::CharacterSigned) => [2, signed],
-                1..=4 | 11 => [1, unsigned],
-                5..=8 => [2, signed],
-                9 => [3, self.read_bits(FLOAT, unsigned)],
-                _ => [4, self.read_bits(DOUBLE, unsigned)],
-            })
-        });
-        self.give(element, out)
+        let found = self.found(image, frame, name);
+        self.give(found.and_then(|entry| self.element_of(image, &entry, k)), out)
     }
 
     fn probes(&self, image: &[u8], frame: u64, name: &[u8], out: &mut [u64; 1]) -> u64 {
@@ -2133,5 +2252,112 @@ impl Library for Model {
             out[0] += done as u64;
         }
         0
+    }
+
+    fn reader_open(&self, image: &[u8], reader: &mut Reader) -> u64 {
+        match self.view(image) {
+            Ok(view) => {
+                *reader = self.reader_words(image, &view, reader);
+                0
+            }
+            Err(number) => {
+                if self.has(Fault::ReaderRefusedOpenClears) {
+                    *reader = Reader::default();
+                }
+                number
+            }
+        }
+    }
+
+    fn reader_name(&self, reader: &Reader, image: &[u8], n: u64, out: &mut [u64; 2]) -> u64 {
+        if self.has(Fault::ReaderFortyFourFirst) && n >= reader[1] {
+            return 44;
+        }
+        self.give_read(self.fit(reader, image).and_then(|fitting| fitting.name(n)), out)
+    }
+
+    fn reader_entry(&self, reader: &Reader, image: &[u8], n: u64, out: &mut [u64; 7]) -> u64 {
+        if self.has(Fault::ReaderFortyFourFirst) && n >= reader[2] {
+            return 44;
+        }
+        let entry = self.fit(reader, image).and_then(|fitting| fitting.entry(n));
+        self.give_read(entry.map(Listed::fields), out)
+    }
+
+    fn reader_lookup(
+        &self,
+        reader: &Reader,
+        image: &[u8],
+        frame: u64,
+        name: &[u8],
+        out: &mut [u64; 7],
+    ) -> u64 {
+        if self.has(Fault::ReaderFortyFirst) && frame >= reader[0] {
+            return 40;
+        }
+        let found = self.fit(reader, image).and_then(|fitting| fitting.lookup(frame, name));
+        self.give_read(found.map(Listed::fields), out)
+    }
+
+    fn reader_chunk(
+        &self,
+        reader: &Reader,
+        image: &[u8],
+        frame: u64,
+        name: &[u8],
+        out: &mut [u64; 2],
+    ) -> u64 {
+        let fitting = match self.fit(reader, image) {
+            Ok(fitting) => fitting,
+            Err(number) => return self.give_read(Err(number), out),
+        };
+        if self.has(Fault::ReaderRefusedChunkWrites) {
+            if let Ok(found) = fitting.lookup(frame, name) {
+                *out = [found.location, found.length()].map(|number| number as u64);
+            }
+        }
+        self.give_read(fitting.chunk(frame, name), out)
+    }
+
+    fn reader_element(
+        &self,
+        reader: &Reader,
+        image: &[u8],
+        frame: u64,
+        name: &[u8],
+        k: u64,
+        out: &mut [u64; 2],
+    ) -> u64 {
+        let element = self.fit(reader, image).and_then(|fitting| fitting.element(frame, name, k));
+        self.give_read(element, out)
+    }
+
+    fn reader_id(&self, reader: &Reader, image: &[u8], name: &[u8], out: &mut [u64; 1]) -> u64 {
+        let id = self.fit(reader, image).and_then(|fitting| fitting.id(name));
+        self.give_read(id.map(|id| [id as u64]), out)
+    }
+
+    fn reader_find(
+        &self,
+        reader: &Reader,
+        image: &[u8],
+        frame: u64,
+        id: u64,
+        out: &mut [u64; 7],
+    ) -> u64 {
+        let found = self.fit(reader, image).and_then(|fitting| fitting.find(frame, id));
+        self.give_read(found.map(Listed::fields), out)
+    }
+
+    fn reader_newest(
+        &self,
+        reader: &Reader,
+        image: &[u8],
+        frame: u64,
+        id: u64,
+        out: &mut [u64; 7],
+    ) -> u64 {
+        let found = self.fit(reader, image).and_then(|fitting| fitting.newest(frame, id));
+        self.give_read(found.map(Listed::fields), out)
     }
 }

@@ -26,6 +26,9 @@ const GREATEST_FRAME: u64 = 4_294_967_294;
 /// Words of the state of an append in turns.
 pub const STATE_WORDS: usize = 406;
 
+/// Words of a reader.
+pub const READER_WORDS: usize = 8;
+
 pub type Answer<T> = Result<T, u64>;
 
 #[derive(Clone, Copy, Debug, PartialEq, Eq)]
@@ -96,10 +99,13 @@ enum Version {
 }
 
 impl Version {
-    fn read(image: &[u8]) -> Option<Version> {
-        let number = u32_at(image, 44);
+    fn new(number: u64) -> Option<Version> {
         let versions = [Version::V1_0, Version::V2_0, Version::V2_1];
-        versions.into_iter().find(|&version| version as u32 == number)
+        versions.into_iter().find(|&version| version as u64 == number)
+    }
+
+    fn read(image: &[u8]) -> Option<Version> {
+        Version::new(u32_at(image, 44).into())
     }
 
     fn last_type(self) -> u8 {
@@ -411,17 +417,7 @@ impl<'a> Image<'a> {
             count += 1;
             Entry::read(slot)
         };
-        let mut left = self.entries;
-        let mut place = 0;
-        while !left.is_empty() {
-            let half = left.len() / 2;
-            if probe(&left[half]).key() < least {
-                place += half + 1;
-                left = &left[half + 1..];
-            } else {
-                left = &left[..half];
-            }
-        }
+        let place = halve(self.entries, |slot| probe(slot).key() < least);
         let mut walked = self.entries[place..].iter().take(most).map(probe);
         let last = walked.find(|entry| entry.frame != key.0 || entry.id == key.1);
         let found = last.is_some_and(|entry| entry.key() == key);
@@ -430,10 +426,32 @@ impl<'a> Image<'a> {
 
     /// The bytes of a listed chunk, which lies within the slice.
     fn data(&self, entry: Entry) -> &'a [u8] {
-        let size = self.version.size_of(entry.kind);
-        let length = size.and_then(|size| bytes_of(entry.n, entry.m, size));
-        &self.bytes[entry.location as usize..][..length.unwrap_or(0) as usize]
+        chunk_of(self.bytes, self.version, entry).unwrap_or_default()
     }
+}
+
+/// Where slots, in whatever order, are halved to: the upper one of two in the middle is read, and
+/// those before it or behind it are left by whether it is below.
+fn halve(slots: &[[u8; SLOT]], mut below: impl FnMut(&[u8; SLOT]) -> bool) -> usize {
+    let mut left = slots;
+    let mut place = 0;
+    while !left.is_empty() {
+        let half = left.len() / 2;
+        if below(&left[half]) {
+            place += half + 1;
+            left = &left[half + 1..];
+        } else {
+            left = &left[..half];
+        }
+    }
+    place
+}
+
+/// The bytes of any entry's chunk; `None` where its type is not known or it ends beyond the slice.
+fn chunk_of(bytes: &[u8], version: Version, entry: Entry) -> Option<&[u8]> {
+    let length = bytes_of(entry.n, entry.m, version.size_of(entry.kind)?)?;
+    let from = bytes.get(usize::try_from(entry.location).ok()?..)?;
+    from.get(..usize::try_from(length).ok()?)
 }
 
 /// The names of a block of 1.0, one to a segment, and where their list ends.
@@ -501,14 +519,18 @@ pub fn chunk<'a>(image: &'a [u8], frame: u64, name: &[u8]) -> Answer<&'a [u8]> {
 pub fn element(image: &[u8], frame: u64, name: &[u8], k: u64) -> Answer<Element> {
     let image = Image::open(image)?;
     let entry = image.lookup(frame, name)?;
-    // A listed chunk lies within the slice, so its number of elements does not wrap.
+    element_of(entry, image.data(entry), k)
+}
+
+/// Element k of an entry's chunk.
+fn element_of(entry: Entry, data: &[u8], k: u64) -> Answer<Element> {
+    // The chunk lies within the slice, so its number of elements does not wrap.
     if k >= entry.n * u64::from(entry.m) {
         return Err(43);
     }
     fn at<const SIZE: usize>(data: &[u8], k: u64) -> [u8; SIZE] {
         data.as_chunks().0[k as usize]
     }
-    let data = image.data(entry);
     Ok(match entry.kind {
         1 | 11 => Element::Unsigned(u8::from_le_bytes(at(data, k)).into()),
         2 => Element::Unsigned(u16::from_le_bytes(at(data, k)).into()),
@@ -520,7 +542,7 @@ pub fn element(image: &[u8], frame: u64, name: &[u8], k: u64) -> Answer<Element>
         8 => Element::Signed(i64::from_le_bytes(at(data, k))),
         9 => Element::Single(u32::from_le_bytes(at(data, k))),
         10 => Element::Double(u64::from_le_bytes(at(data, k))),
-        _ => unreachable!("a listed entry has a known type"),
+        _ => unreachable!("the chunk's type is known"),
     })
 }
 
@@ -528,6 +550,174 @@ pub fn probes(image: &[u8], frame: u64, name: &[u8]) -> Probes {
     match Image::open(image).and_then(|image| Ok((image.key(frame, name)?, image))) {
         Ok((key, image)) => image.search(key),
         Err(number) => Probes { count: 0, answer: Err(number) },
+    }
+}
+
+/// What an image lists at a moment, to be asked for later without opening it again. Any numbers are
+/// safe: what they say of an image that they were not made of is defined too.
+#[derive(Clone, Copy, Debug, PartialEq, Eq)]
+pub struct Reader {
+    frames: u64,
+    names: u64,
+    entries: u64,
+    index: u64,
+    namelist: u64,
+    /// Bytes of the list of names.
+    size: u64,
+    version: u64,
+}
+
+/// A reader and an image that it fits.
+struct Fitting<'a> {
+    image: &'a [u8],
+    version: Version,
+    frames: u64,
+    /// At most so many names are listed.
+    names: u64,
+    list: &'a [u8],
+    slots: &'a [[u8; SLOT]],
+}
+
+impl Reader {
+    pub fn open(image: &[u8]) -> Answer<Reader> {
+        let image = Image::open(image)?;
+        let Counts { frames, names, entries } = image.counts();
+        Ok(Reader {
+            frames,
+            names,
+            entries,
+            index: image.index.start as u64,
+            namelist: image.names_block.start as u64,
+            size: image.list_end as u64,
+            version: image.version as u64,
+        })
+    }
+
+    /// The last word is 0, and no call looks at it.
+    pub fn words(self) -> [u64; READER_WORDS] {
+        let Reader { frames, names, entries, index, namelist, size, version } = self;
+        [frames, names, entries, index, namelist, size, version, 0]
+    }
+
+    pub fn of(words: [u64; READER_WORDS]) -> Reader {
+        let [frames, names, entries, index, namelist, size, version, _] = words;
+        Reader { frames, names, entries, index, namelist, size, version }
+    }
+
+    fn fit(self, image: &[u8]) -> Answer<Fitting<'_>> {
+        let within = |start: u64, count: u64, unit: usize| {
+            let start = usize::try_from(start).ok()?;
+            let length = usize::try_from(count).ok()?.checked_mul(unit)?;
+            image.get(start..)?.get(..length)
+        };
+        let fitting = || {
+            let version = Version::new(self.version)?;
+            let (slots, _) = within(self.index, self.entries, SLOT)?.as_chunks();
+            let list = within(self.namelist, self.size, 1)?;
+            let small = image.len() <= LONGEST_IMAGE && self.names <= MOST_NAMES as u64;
+            let Reader { frames, names, .. } = self;
+            small.then_some(Fitting { image, version, frames, names, list, slots })
+        };
+        fitting().ok_or(33)
+    }
+
+    pub fn name(self, image: &[u8], n: u64) -> Answer<&[u8]> {
+        self.fit(image)?.names().nth(usize::try_from(n).unwrap_or(usize::MAX)).ok_or(44)
+    }
+
+    pub fn entry(self, image: &[u8], n: u64) -> Answer<Entry> {
+        let slots = self.fit(image)?.slots;
+        usize::try_from(n).ok().and_then(|n| slots.get(n)).map(Entry::read).ok_or(44)
+    }
+
+    pub fn id(self, image: &[u8], name: &[u8]) -> Answer<u64> {
+        self.fit(image)?.id_of(name).map(u64::from)
+    }
+
+    pub fn find(self, image: &[u8], frame: u64, id: u64) -> Answer<Entry> {
+        let image = self.fit(image)?;
+        image.search(image.key(frame, id)?)
+    }
+
+    pub fn lookup(self, image: &[u8], frame: u64, name: &[u8]) -> Answer<Entry> {
+        self.fit(image)?.lookup(frame, name)
+    }
+
+    /// The entry of the id in the newest frame that is not behind this one.
+    pub fn newest(self, image: &[u8], frame: u64, id: u64) -> Answer<Entry> {
+        let image = self.fit(image)?;
+        let (frame, id) = image.key(frame, id)?;
+        // One above the keys of this frame, or of this frame up to the id.
+        let behind = match image.version {
+            Version::V1_0 => (frame + 1, 0),
+            Version::V2_0 | Version::V2_1 => (frame, id + 1),
+        };
+        let place = halve(image.slots, |slot| Entry::read(slot).key() < behind);
+        let mut older = image.slots[..place].iter().rev().map(Entry::read);
+        older.find(|entry| entry.id == id).ok_or(42)
+    }
+
+    /// The bytes of a chunk, as a part of the image.
+    pub fn chunk<'a>(self, image: &'a [u8], frame: u64, name: &[u8]) -> Answer<&'a [u8]> {
+        let image = self.fit(image)?;
+        image.data(image.lookup(frame, name)?)
+    }
+
+    pub fn element(self, image: &[u8], frame: u64, name: &[u8], k: u64) -> Answer<Element> {
+        let image = self.fit(image)?;
+        let entry = image.lookup(frame, name)?;
+        element_of(entry, image.data(entry)?, k)
+    }
+}
+
+impl<'a> Fitting<'a> {
+    fn names(&self) -> impl Iterator<Item = &'a [u8]> {
+        let (segments, running) = match self.version {
+            Version::V1_0 => (self.list, &[][..]),
+            Version::V2_0 | Version::V2_1 => (&[][..], self.list),
+        };
+        let segments = segments.as_chunks::<SEGMENT>().0.iter();
+        let segments = segments.take_while(|segment| segment[0] != 0);
+        let until_zero = segments.filter_map(|segment| segment.split(|&byte| byte == 0).next());
+        let running = running.split_inclusive(|&byte| byte == 0);
+        let closed = running.map_while(|name| name.strip_suffix(&[0]));
+        until_zero.chain(closed.take_while(|name| !name.is_empty())).take(self.names as usize)
+    }
+
+    /// Names are few, so an id has 16 bits.
+    fn id_of(&self, name: &[u8]) -> Answer<u16> {
+        self.names().position(|listed| listed == name).map(|id| id as u16).ok_or(41)
+    }
+
+    /// A frame and an id that are there, whether or not the list has so many names.
+    fn key(&self, frame: u64, id: u64) -> Answer<(u64, u16)> {
+        match id {
+            _ if frame >= self.frames => Err(40),
+            _ if id >= self.names => Err(41),
+            _ => Ok((frame, id as u16)),
+        }
+    }
+
+    fn lookup(&self, frame: u64, name: &[u8]) -> Answer<Entry> {
+        if frame >= self.frames {
+            return Err(40);
+        }
+        self.search((frame, self.id_of(name)?))
+    }
+
+    /// The slots may stand in any order, so it is the way of the search that says what is found.
+    fn search(&self, key: (u64, u16)) -> Answer<Entry> {
+        let (first, most) = match self.version {
+            Version::V1_0 => (0, usize::MAX),
+            Version::V2_0 | Version::V2_1 => (key.1, 1),
+        };
+        let place = halve(self.slots, |slot| Entry::read(slot).key() < (key.0, first));
+        let walked = self.slots[place..].iter().take(most).map(Entry::read);
+        walked.take_while(|entry| entry.frame == key.0).find(|entry| entry.id == key.1).ok_or(42)
+    }
+
+    fn data(&self, entry: Entry) -> Answer<&'a [u8]> {
+        chunk_of(self.image, self.version, entry).ok_or(33)
     }
 }
 

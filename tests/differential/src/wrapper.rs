@@ -8,7 +8,8 @@ use crate::images::{
 };
 use crate::library::Linked;
 use crate::random::Rng;
-use dialmoth::{Begun, Element, Refusal, Row, Stores, Type};
+use crate::readers::{Reading, Through};
+use dialmoth::{Begun, Element, Reader, Refusal, Row, Stores, Type};
 
 const TYPES: [Type; 11] = [
     Type::U8,
@@ -57,6 +58,7 @@ pub fn hold() {
             }
         };
         known.push(b"no such name".to_vec());
+        let before = image.clone();
         appends(&mut rng, &mut image, &mut known);
         let counts = dialmoth::open(&image).map_err(number);
         assert_eq!(counts.map(|c| [c.frames, c.names, c.entries]), Linked.counts(&image));
@@ -66,6 +68,7 @@ pub fn hold() {
             assert_eq!(entry, Linked.nth_entry(&image, n));
         }
         lookups(&image, &known);
+        readers(&before, &image, &known);
     }
     created();
     frames_run_out();
@@ -130,6 +133,45 @@ fn lookups(image: &[u8], known: &[Vec<u8>]) {
             assert_eq!(element, Linked.nth_element(image, frame, name, k));
         }
     }
+}
+
+/// The reader of an image, and that of it as it was before some appends.
+fn readers(before: &[u8], image: &[u8], known: &[Vec<u8>]) {
+    for made_of in [before, image] {
+        let reader = Reader::open(made_of).unwrap();
+        assert_eq!(Ok(reader.words()), Linked.reader(made_of));
+        assert_eq!(Reader::from_words(reader.words()), reader);
+        let asked = Through { library: &Linked, reader: reader.words(), image };
+        let part = |[start, length]: [u64; 2]| &image[start as usize..][..length as usize];
+        for n in 0..20 {
+            assert_eq!(reader.name(image, n).map_err(number), asked.name(n).map(part));
+            assert_eq!(reader.entry(image, n).map(fields).map_err(number), asked.entry(n));
+        }
+        for name in known {
+            assert_eq!(reader.id(image, name).map(u64::from).map_err(number), asked.id(name));
+        }
+        let last = reader.words()[0];
+        for frame in [0, 1, last.wrapping_sub(1), last, u64::MAX] {
+            for name in known {
+                let found = reader.lookup(image, frame, name).map(fields).map_err(number);
+                assert_eq!(found, asked.lookup(frame, name));
+                let bytes = reader.chunk(image, frame, name).map_err(number);
+                assert_eq!(bytes, asked.chunk(frame, name).map(part));
+                let element = reader.element(image, frame, name, 0);
+                let element = element.map(kind_and_bits).map_err(number);
+                assert_eq!(element, asked.element(frame, name, 0));
+            }
+            for id in 0..4 {
+                let found = reader.find(image, frame, id).map(fields).map_err(number);
+                assert_eq!(found, asked.find(frame, id.into()));
+                let newest = reader.newest(image, frame, id).map(fields).map_err(number);
+                assert_eq!(newest, asked.newest(frame, id.into()));
+            }
+        }
+    }
+    assert_eq!(Reader::open(&image[..255]), Err(Refusal::SHORT_IMAGE));
+    let none = Reader::from_words([u64::MAX; 8]);
+    assert_eq!(none.id(image, b"a"), Err(Refusal::NOT_FITTING));
 }
 
 fn created() {

@@ -263,6 +263,64 @@ fn turns_between_which_others_write_notice_what_breaks_them() {
     run_notices("turns between which others write", &faults);
 }
 
+/// What a reader must not look at in an image that has grown, or half grown, since it was opened; and
+/// what an append must leave where it was.
+#[test]
+fn readers_of_earlier_moments_notice_what_breaks_them() {
+    use Fault::*;
+    let faults = [
+        ReaderSizeOfBlock,
+        ReaderCountsSlots,
+        ReaderHeaderCompared,
+        ReaderEntriesOfImage,
+        ReaderFramesOfImage,
+        ReaderNamelistOfImage,
+        ReaderNamesOfImage,
+        ReaderGrownImageRefused,
+        NewestOfLastFrame,
+        OldNamesCleared,
+        OldIndexCleared,
+    ];
+    run_notices("readers of earlier moments", &faults);
+}
+
+/// What must be as the calls that open the image have it.
+#[test]
+fn readers_of_images_as_they_are_notice_what_breaks_them() {
+    use Fault::*;
+    let faults = [
+        ReaderSizeWithoutLastZero,
+        ReaderSizeIsPlace,
+        ReaderRunningSizeIn1_0,
+        ReaderVersionOfEightBytes,
+        ReaderKeepsLastWord,
+        ReaderLastWordTested,
+        ReaderIndexEndInside,
+        ReaderListEndInside,
+        ReaderRunningNamesIn1_0,
+        ReaderSegmentNamesIn2_0,
+        ReaderStartOfNameFound,
+        ReaderEmptyNameFound,
+        ReaderFortyOneFirst,
+        ReaderHalvesToIdIn1_0,
+        ReaderHalvesToFrame,
+        ReaderWalkOneShort,
+        ReaderCharacterNever,
+        FindAnyId,
+        FindBehindLastFrame,
+        FindIdIn16Bits,
+        NewestBelowFrame,
+        NewestBelowId,
+        NewestToIdIn1_0,
+        NewestIsOldest,
+        NewestIsNeighbour,
+        NewestFromPlaceItself,
+        NewestOfFrameAlone,
+        NewestInEmptyFrameIsNone,
+    ];
+    run_notices("readers of images as they are", &faults);
+}
+
 /// An index that grows otherwise breaks the bounds of what is copied in all, though each append
 /// answers what it copies.
 #[test]

@@ -163,3 +163,136 @@ pub unsafe extern "C" fn dialmoth_turn(
     let (image, sheet) = (part_mut(image, length), part(sheet, sheet_length));
     Reference.turn(&mut *state.cast(), image, sheet, limit, &mut *out.cast())
 }
+
+/// # Safety
+/// As `dialmoth_open`.
+#[no_mangle]
+pub unsafe extern "C" fn dialmoth_reader_open(
+    image: *const u8,
+    length: usize,
+    reader: *mut u64,
+) -> u64 {
+    Reference.reader_open(part(image, length), &mut *reader.cast())
+}
+
+/// # Safety
+/// As `dialmoth_open`.
+#[no_mangle]
+pub unsafe extern "C" fn dialmoth_reader_name(
+    reader: *const u64,
+    image: *const u8,
+    length: usize,
+    n: u64,
+    out: *mut u64,
+) -> u64 {
+    let image = part(image, length);
+    Reference.reader_name(&*reader.cast(), image, n, &mut *out.cast())
+}
+
+/// # Safety
+/// As `dialmoth_open`.
+#[no_mangle]
+pub unsafe extern "C" fn dialmoth_reader_entry(
+    reader: *const u64,
+    image: *const u8,
+    length: usize,
+    n: u64,
+    out: *mut u64,
+) -> u64 {
+    let image = part(image, length);
+    Reference.reader_entry(&*reader.cast(), image, n, &mut *out.cast())
+}
+
+/// # Safety
+/// As `dialmoth_open`.
+#[no_mangle]
+pub unsafe extern "C" fn dialmoth_reader_lookup(
+    reader: *const u64,
+    image: *const u8,
+    length: usize,
+    frame: u64,
+    name: *const u8,
+    name_length: usize,
+    out: *mut u64,
+) -> u64 {
+    let (image, name) = (part(image, length), part(name, name_length));
+    Reference.reader_lookup(&*reader.cast(), image, frame, name, &mut *out.cast())
+}
+
+/// # Safety
+/// As `dialmoth_open`.
+#[no_mangle]
+pub unsafe extern "C" fn dialmoth_reader_chunk(
+    reader: *const u64,
+    image: *const u8,
+    length: usize,
+    frame: u64,
+    name: *const u8,
+    name_length: usize,
+    out: *mut u64,
+) -> u64 {
+    let (image, name) = (part(image, length), part(name, name_length));
+    Reference.reader_chunk(&*reader.cast(), image, frame, name, &mut *out.cast())
+}
+
+/// # Safety
+/// As `dialmoth_open`.
+#[no_mangle]
+pub unsafe extern "C" fn dialmoth_reader_element(
+    reader: *const u64,
+    image: *const u8,
+    length: usize,
+    frame: u64,
+    name: *const u8,
+    name_length: usize,
+    k: u64,
+    out: *mut u64,
+) -> u64 {
+    let (image, name) = (part(image, length), part(name, name_length));
+    Reference.reader_element(&*reader.cast(), image, frame, name, k, &mut *out.cast())
+}
+
+/// # Safety
+/// As `dialmoth_open`.
+#[no_mangle]
+pub unsafe extern "C" fn dialmoth_reader_id(
+    reader: *const u64,
+    image: *const u8,
+    length: usize,
+    name: *const u8,
+    name_length: usize,
+    out: *mut u64,
+) -> u64 {
+    let (image, name) = (part(image, length), part(name, name_length));
+    Reference.reader_id(&*reader.cast(), image, name, &mut *out.cast())
+}
+
+/// # Safety
+/// As `dialmoth_open`.
+#[no_mangle]
+pub unsafe extern "C" fn dialmoth_reader_find(
+    reader: *const u64,
+    image: *const u8,
+    length: usize,
+    frame: u64,
+    id: u64,
+    out: *mut u64,
+) -> u64 {
+    let image = part(image, length);
+    Reference.reader_find(&*reader.cast(), image, frame, id, &mut *out.cast())
+}
+
+/// # Safety
+/// As `dialmoth_open`.
+#[no_mangle]
+pub unsafe extern "C" fn dialmoth_reader_newest(
+    reader: *const u64,
+    image: *const u8,
+    length: usize,
+    frame: u64,
+    id: u64,
+    out: *mut u64,
+) -> u64 {
+    let image = part(image, length);
+    Reference.reader_newest(&*reader.cast(), image, frame, id, &mut *out.cast())
+}

@@ -7,10 +7,10 @@ use Rattle.gsd_cases.proofs.run.run.Statement.{statement}
 use Rattle.gsd_cases.proofs.run.run.Tie as tie
 
 abbrev Inv-loop : tie.InvT-loop
-Inv-loop table₀ n path image₀ kept₀ sheet₀ state₀ held₀ s₀ from₀ table image kept sheet state held s from = (n ≤ length table) × (length table ≡ length table₀)
+Inv-loop table₀ n path image₀ kept₀ sheet₀ state₀ held₀ reader₀ noted₀ s₀ from₀ table image kept sheet state held reader noted s from = (n ≤ length table) × (length table ≡ length table₀)
 
 abbrev μ-loop : tie.MeasureT-loop
-μ-loop table₀ n path image₀ kept₀ sheet₀ state₀ held₀ s₀ from₀ table image kept sheet state held s from = n - from
+μ-loop table₀ n path image₀ kept₀ sheet₀ state₀ held₀ reader₀ noted₀ s₀ from₀ table image kept sheet state held reader noted s from = n - from
 
 start-requires : tie.Need-start-requires Inv-loop μ-loop
 start-requires c κs = search needs

@@ -2,9 +2,9 @@
 use mathlib.Core.Path.{sym, _∙_}
 use native.Mathlib.Omega.{arith}
 use borrow.Author.Needs.{needs}
-use Rattle.gsd_read.proofs.Lookups.{inside-at, bytes-at, bytes-none, lies-at, lies-anywhere}
-use Rattle.gsd_read.proofs.found.part_at.Statement.{statement}
-use Rattle.gsd_read.proofs.found.part_at.Tie as tie
+use Rattle.gsd_parts.proofs.Parts.{inside-at, bytes-at, bytes-none, lies-at, lies-anywhere}
+use Rattle.gsd_parts.proofs.part_at.Statement.{statement}
+use Rattle.gsd_parts.proofs.part_at.Tie as tie
 
 enum-known-place : tie.Need-enum-known-place
 enum-known-place c = search needs

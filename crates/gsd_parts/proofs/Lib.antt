@@ -1,0 +1,2 @@
+-- Laws of parts that are handed out.
+pub mod Parts

@@ -1,0 +1,2 @@
+-- Where a part that is handed out lies.
+pub mod Parts
