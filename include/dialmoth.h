@@ -1,6 +1,6 @@
 /*
- * dialmoth.h: read GSD 1.0, 2.0 and 2.1 images that lie in memory, and append to
- * those of 2.0 and 2.1.
+ * dialmoth.h: read GSD 1.0, 2.0 and 2.1 images that lie in memory, append to those
+ * of 2.0 and 2.1, and write their chunks of floats and doubles as NChilada files.
  *
  * An image is a whole slice of memory lent by the caller, from 256 to
  * 1,073,741,824 bytes; a file's content, or a region laid out beforehand that
@@ -18,8 +18,9 @@
  *
  * Every call answers a number: 0, or that of the refusal, listed below with its
  * name and its text. A refusal changes nothing, neither the image nor out nor a
- * reader; only append, begin, turn and probes set their out at every call, the first
- * three to zeros when refused, and a refused begin sets its state to zeros as well.
+ * reader nor a file; only append, begin, turn and probes set their out at every call,
+ * the first three to zeros when refused, and a refused begin sets its state to zeros
+ * as well.
  *
  * Opening costs at most some passes over the image's bytes, whatever it holds,
  * but for names made on purpose to have one 32-bit fingerprint: these are
@@ -28,7 +29,7 @@
  *
  * Pointers are never null, not even with length 0; bytes may lie at any address.
  * What a call writes, the image of create, append and turn, the state, the reader of
- * reader_open and every out, overlaps no other argument.
+ * reader_open, the file of nchilada and every out, overlaps no other argument.
  */
 #ifndef DIALMOTH_H
 #define DIALMOTH_H
@@ -96,7 +97,13 @@ extern "C" {
     /* Create: 2, then these in this order. */                                                  \
     R(50, DIALMOTH_LARGE_BLOCK, "more than 65,536 slots or segments")                           \
     R(51, DIALMOTH_BAD_TEXT, "application or schema over 63 bytes or holding a zero byte")      \
-    R(52, DIALMOTH_SHORT_FOR_BLOCKS, "image too short for its blocks")
+    R(52, DIALMOTH_SHORT_FOR_BLOCKS, "image too short for its blocks")                          \
+    /* NChilada: lookup's, then these in this order. */                                         \
+    R(60, DIALMOTH_NOT_FLOATS, "not floats or doubles, or M not 1 or 3")                        \
+    R(61, DIALMOTH_NO_ROWS, "N is 0")                                                           \
+    R(62, DIALMOTH_NAN_IN_CHUNK, "an element of the chunk is a NaN")                            \
+    R(63, DIALMOTH_NOT_FINITE, "the step or the time is not finite")                            \
+    R(64, DIALMOTH_FILE_LENGTH, "file slice not exactly as long as the file")
 
 #define DIALMOTH_NAMED(number, name, text) name = number,
 enum dialmoth_refusal { DIALMOTH_REFUSALS(DIALMOTH_NAMED) };
@@ -208,6 +215,33 @@ uint64_t dialmoth_element(const uint8_t *image, size_t image_length,
 uint64_t dialmoth_probes(const uint8_t *image, size_t image_length,
                          uint64_t frame, const uint8_t *name,
                          size_t name_length, uint64_t out[1]);
+
+/* Writes a chunk of floats or doubles as an NChilada file: one property, its N values
+ * numbers where M is 1 and vectors where M is 3. Numbers: as dialmoth_lookup, then 60
+ * to 64 in this order. A refusal writes nothing.
+ * file has exactly 28 + (2 + N) * M * size bytes, N, M and the type as dialmoth_lookup
+ * answers them, and size 4 for floats, 8 for doubles. All is big-endian (XDR), and
+ * nothing lies between:
+ *   u32 1062053; double time; u32 high word of N; u32 low word of N; u32 M;
+ *   u32 code, which is the type, 9 or 10;
+ *   the smallest value of each column, then the largest of each, M and M elements;
+ *   the N * M elements, in the chunk's order.
+ * Time is the frame's number, as a double, times step, the seconds from a frame to the
+ * next: one multiplication, rounded once. A step may be 0 or negative; in frame 0 a
+ * negative one makes the time -0.0. One that is not finite is refused there too.
+ * The extremes of a column are elements of it. Of equal values the first is kept, and
+ * -0.0 and 0.0 are equal: a zero has the sign of the first one. Infinities are values.
+ * A NaN, quiet or signalling, of either sign, is refused with DIALMOTH_NAN_IN_CHUNK.
+ * No append brings one into an image (DIALMOTH_NAN_IN_SHEET), but one that another
+ * program wrote, or this library before it looked, may hold some.
+ * It opens the image once and goes over the chunk three times: for NaNs, for the
+ * extremes, and to write. It alone of all calls computes with floats, and needs the
+ * mode that a program starts in: rounding to nearest, subnormal numbers kept (a
+ * program linked with -ffast-math may not keep them), no exception trapped. */
+uint64_t dialmoth_nchilada(const uint8_t *image, size_t image_length,
+                           uint64_t frame, const uint8_t *name,
+                           size_t name_length, double step, uint8_t *file,
+                           size_t file_length);
 
 /* A reader, for a caller that asks much of one image: dialmoth_reader_open opens it
  * once, and the eight calls behind it answer from reader and image, and do not test

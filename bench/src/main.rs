@@ -19,7 +19,9 @@ use std::hint::black_box;
 use std::path::Path;
 use std::time::{Duration, Instant};
 use std::{env, fs, process};
-use work::{joined, pair, Day, Large, Moves, Named, Next, Readings, Stored, Turns};
+use work::{
+    joined, pair, Day, Large, Moves, Named, Next, Property, Readings, Stored, Turns, Write,
+};
 
 /// Each row's times are medians of so many passes over the table.
 const PASSES: usize = 7;
@@ -237,6 +239,20 @@ fn readers() -> &'static dyn Readers {
 #[cfg(not(linked))]
 fn readers() -> &'static dyn Readers {
     &Plain
+}
+
+/// Of the library and of plain Rust.
+fn nchilada() -> [Write; 2] {
+    let plain: Write = |image, frame, name, step, file| {
+        reference::nchilada(image, frame, name, step, file).err().unwrap_or(0)
+    };
+    #[cfg(linked)]
+    let library: Write = |image, frame, name, step, file| {
+        dialmoth::nchilada(image, frame, name, step, file).err().map_or(0, |refusal| refusal.0)
+    };
+    #[cfg(not(linked))]
+    let library = plain;
+    [library, plain]
 }
 
 fn open(library: &dyn Library, image: &[u8]) {
@@ -491,6 +507,32 @@ fn large_chunks(pass: &mut Pass) {
     large(pass, whats, "", Large::doubles());
 }
 
+/// The NChilada file of a chunk of 1 MiB, beside plain Rust and beside memcpy.
+fn property(pass: &mut Pass, whats: [&'static str; 2], mut property: Property) {
+    let [library, plain] = nchilada();
+    let sides: &mut [Side<Property>] = &mut [
+        &mut |property, _| property.write(library),
+        &mut |property, _| property.write(plain),
+        &mut |property, _| property.copy(),
+    ];
+    let times = best(&mut property, |_| {}, 1, sides);
+    pass.row(whats[0], "", times[0], times[1]);
+    pass.row(whats[1], "", times[0], times[2]);
+}
+
+fn properties(pass: &mut Pass) {
+    let whats = ["nchilada, 262,144 floats, 1 MiB", "nchilada, 262,144 floats, beside memcpy"];
+    property(pass, whats, Property::floats(1));
+    let whats =
+        ["nchilada, 87,381 by 3 floats, 1 MiB", "nchilada, 87,381 by 3 floats, beside memcpy"];
+    property(pass, whats, Property::floats(3));
+    let whats = ["nchilada, 131,072 doubles, 1 MiB", "nchilada, 131,072 doubles, beside memcpy"];
+    property(pass, whats, Property::doubles(1));
+    let whats =
+        ["nchilada, 43,690 by 3 doubles, 1 MiB", "nchilada, 43,690 by 3 doubles, beside memcpy"];
+    property(pass, whats, Property::doubles(3));
+}
+
 fn pass(library: &dyn Library, first: Option<&[Row]>) -> Vec<Row> {
     let mut pass = Pass { library, readers: readers(), first, rows: Vec::new() };
     opening(&mut pass);
@@ -502,6 +544,7 @@ fn pass(library: &dyn Library, first: Option<&[Row]>) -> Vec<Row> {
     next(&mut pass, "append a frame of 3 chunks, 65,536 slots", Next::doubled());
     all_turns(&mut pass);
     large_chunks(&mut pass);
+    properties(&mut pass);
     pass.rows
 }
 
@@ -616,6 +659,8 @@ fn table(real: HashMap<String, f64>) {
     println!("each run of 1,440 appends, untimed. The 1 MiB chunks go to memory written before");
     println!("and not cleared; header and blocks are restored, untimed. Floats and doubles are");
     println!("tested for NaNs by both sides, bytes are not; memcpy tests nothing.");
+    println!("An NChilada file goes to memory written before, from an image with one entry; it is");
+    println!("three passes over the chunk: for NaNs, for the extremes, and to write.");
     println!(
         "The 64 MiB are opened in the first pass alone where that takes over {} ms.",
         LONG.as_millis()

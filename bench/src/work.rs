@@ -1,5 +1,5 @@
 //! What is timed and counted: a month's index, many names, readings, a day and a month of frames, large
-//! chunks.
+//! chunks and the NChilada files of some.
 
 use crate::fingerprint;
 use crate::reader::{Readers, View, Words};
@@ -11,6 +11,7 @@ use differential::images::{
 };
 use differential::library::{Create, Library, Reference, State, REFUSED};
 use std::hint::black_box;
+use std::ops::Range;
 
 pub const FRAMES: usize = 1440;
 
@@ -673,6 +674,63 @@ impl Large {
     pub fn copy(&mut self) {
         let data = &black_box(&self.sheet)[4 + 16 + 5..];
         let place = &mut black_box(&mut self.image)[3328..][..data.len()];
+        place.copy_from_slice(data);
+        black_box(place);
+    }
+}
+
+/// Writes the NChilada file of a chunk, as the C interface has it.
+pub type Write = fn(&[u8], u64, &[u8], f64, &mut [u8]) -> u64;
+
+/// An image with a chunk of 1 MiB, and a slice for its NChilada file.
+pub struct Property {
+    image: Vec<u8>,
+    file: Vec<u8>,
+    /// Where the chunk lies.
+    data: Range<usize>,
+}
+
+/// The n-th value of a chunk: up and down, so that no processor foresees which is an extreme.
+fn value(n: u32) -> f64 {
+    f64::from(n.wrapping_mul(2_654_435_769) >> 8) / 64.0 - 1e5
+}
+
+impl Property {
+    pub fn floats(m: u32) -> Property {
+        let n = (1 << 18) / m;
+        let data: Vec<_> = (0..n * m).map(|n| (value(n) as f32).to_le_bytes()).collect();
+        Property::of(Row::new(b"trace", 9, n.into(), m, data.as_flattened()))
+    }
+
+    pub fn doubles(m: u32) -> Property {
+        let n = (1 << 17) / m;
+        let data: Vec<_> = (0..n * m).map(|n| value(n).to_le_bytes()).collect();
+        Property::of(Row::new(b"trace", 10, n.into(), m, data.as_flattened()))
+    }
+
+    fn of(row: Row) -> Property {
+        let mut image = vec![0; (1 << 20) + 8192];
+        create(&Reference, &mut image, SLOTS);
+        // The header, the extremes, which are two rows, and the rows.
+        let file = vec![1; 28 + row.data.len() / row.n as usize * (2 + row.n as usize)];
+        pair(&Reference, &mut image, &sheet(&[row]));
+        let mut place = [0; 2];
+        assert_eq!(Reference.chunk(&image, 0, b"trace", &mut place), 0);
+        let [start, length] = place.map(|word| word as usize);
+        Property { image, file, data: start..start + length }
+    }
+
+    pub fn write(&mut self, write: Write) {
+        let (image, file) = (black_box(&self.image), black_box(&mut self.file[..]));
+        assert_eq!(write(image, 0, b"trace", 60.0, file), 0);
+        black_box(file);
+    }
+
+    /// The chunk's bytes as they are, to the file's end.
+    pub fn copy(&mut self) {
+        let data = &black_box(&self.image)[self.data.clone()];
+        let behind = self.file.len() - data.len();
+        let place = &mut black_box(&mut self.file)[behind..];
         place.copy_from_slice(data);
         black_box(place);
     }

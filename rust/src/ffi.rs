@@ -61,6 +61,18 @@ extern "C" {
         out: *mut [u64; 1],
     ) -> u64;
 
+    /// A refusal leaves the file as it was.
+    pub fn dialmoth_nchilada(
+        image: *const u8,
+        image_length: usize,
+        frame: u64,
+        name: *const u8,
+        name_length: usize,
+        step: f64,
+        file: *mut u8,
+        file_length: usize,
+    ) -> u64;
+
     /// A refusal leaves the reader as it was.
     pub fn dialmoth_reader_open(
         image: *const u8,

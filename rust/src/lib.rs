@@ -1,5 +1,5 @@
-//! Safe calls of libdialmoth.a, which reads GSD 1.0, 2.0 and 2.1 images that lie in memory, and
-//! appends to those of 2.0 and 2.1.
+//! Safe calls of libdialmoth.a, which reads GSD 1.0, 2.0 and 2.1 images that lie in memory, appends
+//! to those of 2.0 and 2.1, and writes their chunks of floats and doubles as NChilada files.
 //!
 //! ```
 //! use dialmoth::{Element, Row, Type};
@@ -19,8 +19,9 @@
 //! What is not there is a refusal and never a stand-in value: [`Refusal::NO_CHUNK`] says that a
 //! frame has no such chunk. A frame may be empty: go from entry to entry, not from frame to frame.
 //!
-//! The package needs `core` alone, but for [`sheet`], which answers a `Vec`: it is left out without
-//! the default feature `alloc`, and [`put_sheet`] writes the same bytes to a lent slice.
+//! The package needs `core` alone, but for [`sheet`] and [`nchilada_file`], which answer a `Vec`: they
+//! are left out without the default feature `alloc`, and [`put_sheet`] and [`nchilada()`] write the same
+//! bytes to a lent slice.
 
 #![no_std]
 
@@ -28,10 +29,14 @@
 extern crate alloc;
 
 pub mod ffi;
+mod nchilada;
 mod reader;
 mod refusal;
 
 use core::fmt;
+pub use nchilada::nchilada;
+#[cfg(feature = "alloc")]
+pub use nchilada::nchilada_file;
 pub use reader::{Entries, Reader};
 pub use refusal::Refusal;
 

@@ -2,7 +2,7 @@
 
 use core::{error::Error, fmt};
 
-/// The number of a refusal, 1 to 52.
+/// The number of a refusal, 1 to 64.
 #[derive(Clone, Copy, Debug, PartialEq, Eq, Hash)]
 pub struct Refusal(pub u64);
 
@@ -77,6 +77,12 @@ refusals! {
     50 LARGE_BLOCK "more than 65,536 slots or segments"
     51 BAD_TEXT "application or schema over 63 bytes or holding a zero byte"
     52 SHORT_FOR_BLOCKS "image too short for its blocks"
+    // NChilada: lookup's, then these in this order.
+    60 NOT_FLOATS "not floats or doubles, or M not 1 or 3"
+    61 NO_ROWS "N is 0"
+    62 NAN_IN_CHUNK "an element of the chunk is a NaN"
+    63 NOT_FINITE "the step or the time is not finite"
+    64 FILE_LENGTH "file slice not exactly as long as the file"
 }
 
 impl fmt::Display for Refusal {

@@ -16,6 +16,9 @@ this library's own readers only, until the clearing stores of the next append ar
 finds the list's end by halving, and looks at slots behind it. gsd.fl writes NaNs, floats and doubles
 that are not a number; ours reads them, and refuses an append that has one with 30.
 In 1.0 gsd.fl wants a zero at the end of the name block, and gsd.pygsd wants nothing else behind a name.
+
+Of all that ours reads it also writes the NChilada files, or refuses them: nchilada.py, made from document
+003, reads these.
 """
 
 import contextlib
@@ -28,6 +31,7 @@ import subprocess
 import sys
 import tempfile
 import traceback
+import zlib
 
 import numpy
 import gsd.fl
@@ -35,6 +39,7 @@ import gsd.pygsd
 import gsd.version
 
 import handmade
+import nchilada
 
 GSD = getattr(gsd, "__version__", None) or gsd.version.version
 READ, WRITE, GROW = ("rb", "wb", "rb+") if GSD.startswith("2.") else ("r", "w", "r+")
@@ -86,7 +91,8 @@ class Peer:
 
     def __init__(self, program, folder):
         self.program = program
-        self.sheet, self.whole = (os.path.join(folder, name) for name in ["sheet", "whole"])
+        self.sheet, self.whole, self.files = (
+            os.path.join(folder, name) for name in ["sheet", "whole", "files"])
 
     def run(self, *words):
         words = [self.program, *map(str, words)]
@@ -141,6 +147,19 @@ class Peer:
             assert same_elements(data, kind, elements), (frame, names[name], data, elements)
             chunks[frame][names[name]] = data
         return names, chunks
+
+    def nchilada(self, path, step):
+        """The number where refused, else by frame and id the NChilada file of each chunk, or its number."""
+        first, *lines = self.run("nchilada", path, repr(step), self.files).splitlines()
+        if first != "0":
+            return int(first)
+        raw, at, found = content(self.files), 0, {}
+        for line in lines:
+            frame, name, number, length = map(int, line.split())
+            found[frame, name] = number or raw[at:at + length]
+            at += 0 if number else length
+        assert at == len(raw) and len(found) == len(lines)
+        return found
 
 
 def same_elements(data, kind, words):
@@ -220,6 +239,19 @@ def random_frame(rng, letters="", nans=False, names=NAMES):
 def real_frame(rng):
     """A frame that the real library can write."""
     return random_frame(rng, ASCII, nans=True)
+
+
+def float_frame(rng):
+    """Some chunks for NChilada files, or nearly so: of few values each, so that many are equal, zeros of
+    both signs among them."""
+    frame = {}
+    for name in rng.sample(NAMES, rng.randint(1, 4)):
+        kind, n, m = rng.choice([9, 10]), rng.choice([1, 1, 2, 3, 40, 300]), rng.choice([1, 1, 3, 3, 3, 2])
+        zeros = [bytes(size_of(kind)), EDGES[kind][2].to_bytes(size_of(kind), "little")]
+        values = [random_float(rng, kind, False) for _ in range(rng.choice([1, 3, 100]))]
+        raw = b"".join(rng.choices(rng.choice([zeros, values, zeros + values]), k=n * m))
+        frame[name] = numpy.frombuffer(raw, TYPES[kind]).reshape(n, m)
+    return frame
 
 
 def random_frames(rng, most):
@@ -322,6 +354,29 @@ def ours_reads(peer, path, frames, names=None):
         assert found.keys() == frame.keys()
         for name, data in frame.items():
             assert found[name].shape == data.shape and same(found[name], data)
+    ours_writes(peer, path, by_id(listed, frames))
+
+
+def by_id(names, frames):
+    """All chunks, by frame and id."""
+    return {(number, names.index(name)): data
+            for number, frame in enumerate(frames) for name, data in frame.items()}
+
+
+def ours_writes(peer, path, chunks, step=None):
+    """Holds the NChilada files of an image to document 003 and to its chunks, which are by frame and id;
+    others are refused. Where no step is given, the image's bytes choose one."""
+    if step is None:
+        step = nchilada.STEPS[zlib.crc32(content(path)) % len(nchilada.STEPS)]
+    found = peer.nchilada(path, step)
+    assert found.keys() == chunks.keys()
+    for (frame, name), data in chunks.items():
+        file, number = found[frame, name], nchilada.number_of(data, frame, step)
+        if number != 0:
+            assert file == number, (frame, name, step, data, file)
+        else:
+            assert isinstance(file, bytes), (frame, name, step, data, file)
+            nchilada.hold(file, data, frame, step)
 
 
 def header(path):
@@ -493,6 +548,7 @@ def ours_reads_old(peer, path):
     found, expected = peer.listed(path), handmade.read(image)
     if isinstance(expected, int):
         assert found == expected, (found, expected)
+        assert peer.nchilada(path, 1.0) == expected
         return
     assert not isinstance(found, int), found
     frames, names, entries = found
@@ -503,6 +559,8 @@ def ours_reads_old(peer, path):
         data = handmade.data_of(image, entry)
         assert (start, length) == (entry.location, len(data))
         assert same_elements(numpy.frombuffer(data, TYPES[entry.kind]), entry.kind, elements), entry
+    ours_writes(peer, path, {(entry.frame, entry.id): array_by_hand(image, entry)
+                             for entry in expected[1]})
 
 
 def ours_refuses_old(peer, rng, path, number=20):
@@ -542,10 +600,14 @@ def frames_by_hand(image):
         return names, None
     frames = [{} for _ in range(handmade.frames_of(entries))]
     for entry in entries:
-        data = numpy.frombuffer(handmade.data_of(image, entry), TYPES[entry.kind])
-        n = 0 if entry.m == 0 else entry.n
-        frames[entry.frame][names[entry.id]] = data.reshape(n, entry.m)
+        frames[entry.frame][names[entry.id]] = array_by_hand(image, entry)
     return names, frames
+
+
+def array_by_hand(image, entry):
+    """The chunk of an entry; an array without columns has no rows."""
+    data = numpy.frombuffer(handmade.data_of(image, entry), TYPES[entry.kind])
+    return data.reshape(0 if entry.m == 0 else entry.n, entry.m)
 
 
 class Tests:
@@ -795,6 +857,30 @@ class Tests:
         ours_reads(self.peer, path, frames + more)
         real_reads(path, frames + more, layer)
 
+    def files_of_ours(self, rng, path):
+        """The NChilada files of an image of ours are those of what the real library reads in it."""
+        create(self.peer, rng, path, 200_000, rng.choice([1, 64]), rng.choice([1, 16]))
+        layer = layer_of(path)
+        frames = [float_frame(rng) for _ in range(rng.randint(1, 4))]
+        for frame in frames:
+            assert self.peer.append(path, frame)[0] == 0
+        real_reads(path, frames, layer)
+        ours_reads(self.peer, path, frames)
+        self.files_at_each_step(path, frames)
+
+    def files_of_real(self, rng, path):
+        """Those of a file of the real library; where it has NaNs, these chunks are refused, and no others."""
+        frames = [float_frame(rng) for _ in range(rng.randint(1, 4))]
+        frames = spread(rng, [with_nan(rng, frame) if rng.random() < 0.5 else frame for frame in frames])
+        write_real(path, frames)
+        self.both_read(path, frames)
+        self.files_at_each_step(path, frames)
+
+    def files_at_each_step(self, path, frames):
+        names, _ = self.peer.read(path)
+        for step in nchilada.STEPS:
+            ours_writes(self.peer, path, by_id(names, frames), step)
+
     def ours_grows_real(self, rng, path):
         """We append to the real library's file, and both read all of it."""
         frames = random_frames(rng, 40)
@@ -971,6 +1057,10 @@ def main():
         tests.test("ours with infinities where NaNs were refused", 60, tests.infinities)
         tests.test("files of gsd.fl with NaNs, read and grown by ours", 60, tests.real_nans)
         tests.test("ours with NaNs of gsd.fl, grown by ours", 30, tests.real_nans_in_ours)
+        print("NChilada files are read by struct, numpy",
+              "and no xdrlib, which this Python has not" if nchilada.xdrlib is None else "and xdrlib")
+        tests.test("NChilada files of ours", 60, tests.files_of_ours)
+        tests.test("NChilada files of files of gsd.fl", 60, tests.files_of_real)
         listed = listings(os.path.join(files, "stdout"))
         for name in stored_files(os.path.join(files, "data")):
             stored, nans = os.path.join(files, "data", name), name in STORED_WITH_NANS

@@ -12,6 +12,10 @@
  *                                            elements as kind:bits; status 1 where a lookup finds
  *                                            another entry, or a chunk that no entry tells of, or where
  *                                            a reader answers otherwise
+ *   peer nchilada FILE STEP FILES            prints the number; if 0, for the NChilada file of each
+ *                                            entry's chunk a line "frame id number length", and writes
+ *                                            these files one behind the other to FILES; status 1 where a
+ *                                            slice of another length is not refused, or a refusal writes
  */
 #include "dialmoth.h"
 
@@ -219,6 +223,89 @@ static int list(const char *path)
     return chunks == counts[2] ? 0 : 1;
 }
 
+/* A chunk, by frame and name. */
+struct named {
+    uint64_t frame;
+    const uint8_t *name;
+    size_t name_length;
+};
+
+/* What a slice has before a call, and one byte behind it. */
+#define KEPT 0xA5
+
+/* The number that dialmoth_nchilada answers for a slice of so many bytes. It is to leave the byte behind
+ * them, and where it refuses all of them. */
+static uint64_t write_file(struct bytes image, struct named chunk, double step, uint8_t *file, size_t length)
+{
+    uint64_t refused;
+    size_t k;
+
+    memset(file, KEPT, length + 1);
+    refused = dialmoth_nchilada(image.start, image.length, chunk.frame, chunk.name, chunk.name_length, step,
+                                file, length);
+    for (k = refused == 0 ? length : 0; k <= length; k++)
+        if (file[k] != KEPT)
+            exit(1);
+    return refused;
+}
+
+/* Bytes of the file of an entry's chunk; 0 where its type or its M is not for one. */
+static size_t file_length(const uint64_t *entry)
+{
+    uint64_t type = entry[DIALMOTH_ENTRY_TYPE], m = entry[DIALMOTH_ENTRY_M];
+
+    if ((type != DIALMOTH_FLOAT && type != DIALMOTH_DOUBLE) || (m != 1 && m != 3))
+        return 0;
+    return 28 + (2 + entry[DIALMOTH_ENTRY_N]) * m * (type == DIALMOTH_FLOAT ? 4 : 8);
+}
+
+static int nchilada(const char *path, double step, const char *files_path)
+{
+    struct bytes image = load(path);
+    struct named none = { 0, DIALMOTH_TEXT("no such name") };
+    FILE *files = fopen(files_path, "wb");
+    /* No file is longer than its chunk and 76 bytes. */
+    uint8_t *file = malloc(image.length + 100);
+    uint64_t counts[3], n, refused = dialmoth_open(image.start, image.length, counts);
+
+    if (files == NULL || file == NULL)
+        fail(files_path);
+    printf("%" PRIu64 "\n", refused);
+    if (refused != 0)
+        return write_file(image, none, step, file, 40) != refused;
+    if (counts[0] > 0 && write_file(image, none, step, file, 40) != 41)
+        return 1;
+    none.frame = counts[0];
+    if (write_file(image, none, step, file, 40) != 40)
+        return 1;
+    for (n = 0; n < counts[2]; n++) {
+        uint64_t entry[DIALMOTH_ENTRY_FIELDS], place[2], other;
+        struct named chunk;
+        size_t length;
+
+        if (dialmoth_entry(image.start, image.length, n, entry) != 0
+            || dialmoth_name(image.start, image.length, entry[DIALMOTH_ENTRY_ID], place) != 0)
+            return 1;
+        chunk.frame = entry[DIALMOTH_ENTRY_FRAME];
+        chunk.name = image.start + place[0];
+        chunk.name_length = place[1];
+        length = file_length(entry);
+        other = write_file(image, chunk, step, file, length + 1);
+        if (length > 0 && write_file(image, chunk, step, file, length - 1) != other)
+            return 1;
+        refused = write_file(image, chunk, step, file, length);
+        if (other != (refused == 0 ? 64 : refused))
+            return 1;
+        printf("%" PRIu64 " %" PRIu64 " %" PRIu64 " %zu\n", chunk.frame, entry[DIALMOTH_ENTRY_ID], refused,
+               length);
+        if (refused == 0 && fwrite(file, 1, length, files) != length)
+            fail(files_path);
+    }
+    if (fclose(files) != 0)
+        fail(files_path);
+    return 0;
+}
+
 int main(int count, char **words)
 {
     if (count == 6 && strcmp(words[1], "create") == 0)
@@ -227,6 +314,8 @@ int main(int count, char **words)
         return append(words[2], words[3], number(words[4]));
     if (count == 3 && strcmp(words[1], "list") == 0)
         return list(words[2]);
-    fprintf(stderr, "usage: peer create|append|list ..\n");
+    if (count == 5 && strcmp(words[1], "nchilada") == 0)
+        return nchilada(words[2], strtod(words[3], NULL), words[4]);
+    fprintf(stderr, "usage: peer create|append|list|nchilada ..\n");
     return 2;
 }

@@ -5,6 +5,7 @@ use gsd_append::State;
 use gsd_append::append;
 use gsd_create::create;
 use gsd_format::Reader;
+use gsd_nchilada::nchilada;
 use gsd_out::listed_number;
 use gsd_out::put_counts;
 use gsd_out::put_element;
@@ -31,12 +32,14 @@ use gsd_reader::open_reader;
 use gsd_states::STATE_WORDS;
 ghost use mathlib.Core.Path.{_≡_};
 ghost use mathlib.Core.List.{[], _∷_};
+ghost use lib.ListN.{length};
 ghost use Rattle.gsd_format.specs.Opening.{opening};
 ghost use Rattle.gsd_format.specs.Lookup.{nthEntry, nthName, lookup, chunkPlace};
 ghost use Rattle.gsd_format.specs.Elements.{element};
 ghost use Rattle.gsd_format.specs.Readers.{reading, nameBy, entryBy, lookupBy, chunkPlaceBy, elementBy, idBy, findBy, newestBy};
 ghost use Rattle.gsd_format.specs.Create.{createNumber, created};
 ghost use Rattle.gsd_format.specs.Answers.{openingNumber, listedNumber, placeNumber, elementNumber, readingNumber, identNumber};
+ghost use Rattle.gsd_nchilada.specs.Request.{nchiladaNumber, nchiladaFile};
 ghost use Rattle.gsd_stores.specs.Append.{appendTest, appended};
 ghost use Rattle.gsd_out.specs.Out.{openingOut, listedOut, placeOut, elementOut, readingOut, identOut};
 ghost use Rattle.gsd_append.specs.Turns.{turnImage};
@@ -112,6 +115,21 @@ pub extern "C" fn dialmoth_probes(image: &[u8], frame: u64, name: &[u8], out: &m
     let answer = s.answer;
     *out = [s.probes];
     listed_number(answer)
+}
+
+// The file of a chunk goes into a slice of its length; a refusal writes nothing.
+#[no_mangle]
+pub extern "C" fn dialmoth_nchilada(
+    image: &[u8],
+    frame: u64,
+    name: &[u8],
+    step: f64,
+    file: &mut [u8],
+) -> u64
+    ensures number { λ r. ⌜ r ≡ nchiladaNumber (now (image .entry)) frame (now (name .entry)) step (length (now (file .entry))) ⌝ }
+    ensures file { λ _. ⌜ now (file .exit) ≡ nchiladaFile (now (image .entry)) frame (now (name .entry)) step (now (file .entry)) ⌝ }
+{
+    nchilada(image, frame, name, step, file)
 }
 
 // The reader's words.

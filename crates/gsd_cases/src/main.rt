@@ -2,6 +2,7 @@
 // thing that is made or asked (words.rt of gsd_lines lists the forms); "#" begins a case, "-" a comment.
 mod ask;
 mod call;
+mod nchilada;
 mod readers;
 mod run;
 mod turns;

@@ -2,6 +2,7 @@
 // that is held, one reader and the copy of it that is noted; what a line asks is answered by a look at the image or by a call.
 use crate::ask::ask;
 use crate::call::call;
+use crate::nchilada::ask_file;
 use crate::readers::ask_by;
 use crate::readers::note;
 use crate::turns::hold;
@@ -58,12 +59,16 @@ fn ask_line(
     s: State,
     path: &[u8],
 ) -> State {
+    let mut text = [0u8; 32768];
+    if line.word == words::NCHILADA {
+        let end = ask_file(line.numbers, table, part(image, s.len), &mut text);
+        return tally::compared(s, path, &text, end, part(table, line.answer));
+    }
     // More than a search ever probes, and no zeros for a refused append: a count that is not set shows.
     let mut one = [99u64; 1];
     let mut two = [1u64; 2];
     let mut three = [1u64; 3];
     let mut seven = [0u64; 7];
-    let mut text = [0u8; 32768];
     let number = number_of(
         line,
         table,

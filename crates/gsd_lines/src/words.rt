@@ -1,7 +1,7 @@
 // The words of a table. A line's form is its word with 0 for each number, ' for each text and = before an answer: a line
 // "lookup 0 'probe' = 41" has the form "lookup0'=".
 
-const FORMS: [u8; 640] = *b"\
+const FORMS: [u8; 656] = *b"\
 image0          \
 use0            \
 bytes0'         \
@@ -33,6 +33,7 @@ open=           \
 entry0=         \
 lookup0'=       \
 probes0'=       \
+nchilada0'00=   \
 reader=         \
 byname0=        \
 bychunk0'=      \
@@ -108,25 +109,27 @@ pub const LOOKUP: usize = 29;
 
 pub const PROBES: usize = 30;
 
-pub const READER: usize = 31;
+pub const NCHILADA: usize = 31;
 
-pub const BY_NAME: usize = 32;
+pub const READER: usize = 32;
 
-pub const BY_CHUNK: usize = 33;
+pub const BY_NAME: usize = 33;
 
-pub const BY_ELEMENT: usize = 34;
+pub const BY_CHUNK: usize = 34;
 
-pub const BY_ENTRY: usize = 35;
+pub const BY_ELEMENT: usize = 35;
 
-pub const BY_LOOKUP: usize = 36;
+pub const BY_ENTRY: usize = 36;
 
-pub const BY_ID: usize = 37;
+pub const BY_LOOKUP: usize = 37;
 
-pub const BY_FIND: usize = 38;
+pub const BY_ID: usize = 38;
 
-pub const BY_NEWEST: usize = 39;
+pub const BY_FIND: usize = 39;
 
-pub const UNKNOWN: usize = 40;
+pub const BY_NEWEST: usize = 40;
+
+pub const UNKNOWN: usize = 41;
 
 // The place of a form in the list.
 pub fn known(form: &[u8; 16]) -> usize {

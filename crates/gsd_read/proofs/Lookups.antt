@@ -45,7 +45,7 @@ name-inside img n = go (verdict img) refl (decLt n (length (nameParts img)))
 
 -- an entry that is found is sound, and its chunk is in the image
 module _ (img : List ℕ) (frame : ℕ) (name : List ℕ) (e : Entry) (found : lookup img frame name ≡ Listed.Found e) where
-  found-sound : Sound (layoutOf img) (length (namesOf img)) e
+  pub found-sound : Sound (layoutOf img) (length (namesOf img)) e
   found-sound =
       let opens = found-opens img frame name e found in
       let met = look-found (entriesOf img) (namesOf img) frame name e .0 (sym (opened-lookup img opens frame name) ∙ found) in

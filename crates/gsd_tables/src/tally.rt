@@ -2,10 +2,13 @@
 // line to line.
 use crate::make::put_byte;
 use crate::make::put_text;
+use gsd_bytes::wide;
 use gsd_lines::part;
 use gsd_lines::words;
 use libc::STDOUT_FILENO;
 use std::num::wrapping_add_u64;
+ghost use Prim.Native.Nat.{_+_, _≤_};
+ghost use lib.ListN.{length};
 
 // How long the slice is that is lent, where the sheet ends, and what is counted. idle: the case has asked nothing yet.
 pub struct State {
@@ -190,4 +193,24 @@ pub fn answer(
         8 => say_values(text, at, reader),
         _ => at,
     }
+}
+
+// The number of the four bytes from `at` on, the highest first.
+fn be32_at(bytes: &[u8], at: usize) -> u64
+    requires { ⌜ at + 4 ≤ length (now bytes) ⌝ }
+{
+    let high = 256 * wide(bytes[at]) + wide(bytes[at + 1]);
+    let low = 256 * wide(bytes[at + 2]) + wide(bytes[at + 3]);
+    65536 * high + low
+}
+
+// A call's number and, at every number, the words that a slice holds.
+pub fn answer_words(number: u64, bytes: &[u8], text: &mut [u8; 32768]) -> u64 {
+    let mut end = say(text, 0, number);
+    let mut i = 0;
+    while i < bytes.len() / 4 {
+        end = say(text, end, be32_at(bytes, 4 * i));
+        i += 1;
+    }
+    end
 }

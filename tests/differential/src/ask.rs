@@ -16,6 +16,11 @@ fn part(image: &[u8], [start, length]: [u64; 2]) -> &[u8] {
     &image[start as usize..][..length as usize]
 }
 
+/// Bytes that no file is made of.
+pub fn any_bytes(length: usize) -> Vec<u8> {
+    (0..length).map(|at| (151 * at + at / 256 + 90) as u8).collect()
+}
+
 pub trait Ask: Library {
     fn counts(&self, image: &[u8]) -> Answer<[u64; 3]> {
         answer(|out| self.open(image, out))
@@ -57,6 +62,25 @@ pub trait Ask: Library {
         let mut out = [0x5555];
         let number = self.probes(image, frame, name, &mut out);
         (number, out[0])
+    }
+
+    /// The NChilada file in a slice of so many bytes; a refusal leaves those that were there.
+    fn file(
+        &self,
+        image: &[u8],
+        frame: u64,
+        name: &[u8],
+        step: f64,
+        length: usize,
+    ) -> Answer<Vec<u8>> {
+        let mut file = any_bytes(length);
+        match self.nchilada(image, frame, name, step, &mut file) {
+            0 => Ok(file),
+            number => {
+                assert_eq!(file, any_bytes(length), "refused with {number}, and wrote");
+                Err(number)
+            }
+        }
     }
 
     /// A fresh image of `length` bytes, zero before, with empty texts.

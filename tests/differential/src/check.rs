@@ -1,5 +1,7 @@
 //! Two makers of the calls side by side, on one image.
 
+use crate::ask::any_bytes;
+use crate::generate;
 use crate::images::{around, frames_to_ask, Row};
 use crate::lent::{Flush, Lent};
 use crate::library::{
@@ -47,6 +49,7 @@ pub struct Check<'l> {
     joined: Lent,
     state: Lent,
     reader: Lent,
+    file: Lent,
     ours: Vec<u8>,
     before: Vec<u8>,
     flush: Flush,
@@ -72,6 +75,7 @@ impl<'l> Check<'l> {
             joined: Lent::new(1 << 16),
             state: Lent::new(8 * STATE_WORDS),
             reader: Lent::new(8 * READER_WORDS),
+            file: Lent::new(1 << 10),
             ours: Vec::new(),
             before: Vec::new(),
             flush: Flush::End,
@@ -235,6 +239,32 @@ impl<'l> Check<'l> {
         let expected = Reference.element(&self.ours, frame, name, k, &mut ours.numbers);
         let call = || format!("element frame {frame} name {} k {k}", hex(name));
         self.judge((number, theirs), (expected, ours), call)
+    }
+
+    /// The NChilada file of a chunk in a slice of so many bytes.
+    pub fn nchilada(&mut self, frame: u64, name: &[u8], step: f64, length: usize) {
+        let mut ours = any_bytes(length);
+        let (text, file) =
+            (self.argument.lend(name, self.flush), self.file.lend(&ours, self.flush));
+        let number = self.library.nchilada(self.theirs.bytes(), frame, text, step, file);
+        self.argument_kept(name);
+        let expected = Reference.nchilada(&self.ours, frame, name, step, &mut ours);
+        let call = || {
+            let (name, bits) = (hex(name), step.to_bits());
+            format!("nchilada frame {frame} name {name} step {bits:016x} in {length} bytes")
+        };
+        self.judge((number, Out::<0>::new()), (expected, Out::new()), call);
+        let kept = self.file.margin_kept();
+        if self.file.bytes() != ours || !kept {
+            let (theirs, image) = (hex(self.file.bytes()), hex(&self.ours));
+            self.fail(|| {
+                let (call, ours) = (call(), hex(&ours));
+                format!("{call}\n  writes   {theirs} margin kept {kept}\n  expected {ours}\n  image {image}")
+            });
+        }
+        if self.theirs.bytes() != self.ours || !self.theirs.margin_kept() {
+            self.fail(|| format!("{}\n  wrote the image", call()));
+        }
     }
 
     pub fn create(&mut self, request: Create) -> Option<[u64; 0]> {
@@ -571,7 +601,7 @@ impl<'l> Check<'l> {
         }
     }
 
-    /// Lookup, chunk and some elements of one name in one frame.
+    /// Lookup, chunk, some elements and the file of one name in one frame.
     pub fn read(&mut self, frame: u64, name: &[u8]) -> Option<[u64; 7]> {
         let found = self.lookup(frame, name);
         self.chunk(frame, name);
@@ -580,6 +610,11 @@ impl<'l> Check<'l> {
         for k in [0, count.wrapping_sub(1), count, (1 << 61) + 1] {
             self.element(frame, name, k);
         }
+        // The same for the same chunk.
+        let mut rng = Rng::new(frame ^ (name.len() as u64) << 40 ^ (self.ours.len() as u64) << 20);
+        let step = generate::step(&mut rng, frame);
+        let length = generate::some_length(&mut rng, found.unwrap_or_default());
+        self.nchilada(frame, name, step, length);
         found
     }
 }

@@ -3,9 +3,9 @@
 
 use crate::ask::Ask;
 use crate::images::{
-    blank, get64, is_nan, last_type, put16, put32, put64, put_names, put_slots, room, segments_for,
-    sheet, size, version, Row, Slot, FLOATS, GREATEST_FRAME, GROWING, SEGMENT, V1_0, V2_1,
-    VERSIONS,
+    blank, file_length, get64, is_nan, last_type, put16, put32, put64, put_names, put_slots, room,
+    segments_for, sheet, size, version, Row, Slot, FLOATS, GREATEST_FRAME, GROWING, SEGMENT, V1_0,
+    V2_1, VERSIONS,
 };
 use crate::library::{Create, Library, Reference};
 use crate::model::EARLIER;
@@ -242,10 +242,15 @@ fn make_numbers(row: &mut Row) {
     }
 }
 
+/// The sign of a float or a double, the bits of its fraction, and infinity.
+fn float_format(size: usize) -> (u64, usize, u64) {
+    let (sign, fraction) = if size == 4 { (1 << 31, 23) } else { (1 << 63, 52) };
+    (sign, fraction, (sign - 1) >> fraction << fraction)
+}
+
 /// A float's or a double's bits about the borders between numbers, infinities and NaNs.
 fn border_bits(rng: &mut Rng, size: usize) -> u64 {
-    let (sign, fraction) = if size == 4 { (1 << 31, 23) } else { (1 << 63, 52) };
-    let infinity = (sign - 1) >> fraction << fraction;
+    let (sign, fraction, infinity) = float_format(size);
     let quiet = 1 << (fraction - 1);
     let any = rng.number() % (1 << fraction);
     let bits = match rng.below(10) {
@@ -288,6 +293,120 @@ fn put_border(rng: &mut Rng, row: &mut Row) {
     places.zip(&bits[..width]).for_each(|(place, bit)| *place = *bit);
     if across {
         make_numbers(row);
+    }
+}
+
+/// The bits of a number, of the kinds that are compared wrongly: zeros, the least and the greatest,
+/// infinities, neighbours, and any.
+fn number_bits(rng: &mut Rng, size: usize) -> u64 {
+    let (sign, fraction, infinity) = float_format(size);
+    let one = infinity >> fraction >> 1 << fraction;
+    let near = rng.below(3) as u64;
+    let bits = match rng.below(9) {
+        0 | 1 => 0,
+        2 => near,
+        3 => infinity - near,
+        4 => (1 << fraction) + near - 1,
+        // By the last bits, or by one that a double's high half or a float still has.
+        5 => one + near,
+        6 => one + (near << rng.pick(&[fraction - 23, fraction - 20])),
+        7 => rng.number() % (1 << fraction),
+        _ => rng.number() % infinity,
+    };
+    bits + rng.pick(&[0, sign])
+}
+
+/// A row for a file: mostly of floats or doubles, in one column or three, of few different values;
+/// sometimes with a NaN or what is next to one.
+fn float_row(rng: &mut Rng, version: u32, name: &[u8]) -> Row {
+    let kind = match rng.below(8) {
+        0 => rng.between(1, last_type(version).into()) as u8,
+        _ => rng.pick(&FLOATS),
+    };
+    let m = match rng.below(12) {
+        0 => rng.pick(&[0, 2, 4, 5]),
+        1 => rng.pick(&[257, 259, (1 << 16) + 1, (1 << 24) + 3, u32::MAX]),
+        2..=6 => 1,
+        _ => 3,
+    };
+    let n = match rng.below(24) {
+        _ if m > 300 => 0,
+        _ if m > 5 => rng.below(2),
+        0 | 1 => 0,
+        2 => rng.between(9, 70),
+        3 if rng.chance(10) => rng.between(70, 600),
+        _ => rng.between(1, 8),
+    };
+    let size = size(kind);
+    let few: Vec<u64> = (0..rng.between(1, 5)).map(|_| number_bits(rng, size)).collect();
+    let mut data = Vec::new();
+    for _ in 0..n * m as usize {
+        let bits = if rng.chance(85) { rng.pick(&few) } else { number_bits(rng, size) };
+        data.extend(&bits.to_le_bytes()[..size]);
+    }
+    let mut row = Row::new(name, kind, n as u64, m, &data);
+    if rng.chance(30) {
+        put_border(rng, &mut row);
+    }
+    row
+}
+
+/// An image of such chunks, at odd places, with frames left out, up to the greatest one.
+pub fn float_image(rng: &mut Rng) -> Layout {
+    let version = some_version(rng, 30);
+    let count = rng.between(1, 4);
+    let names = short_names(rng, count);
+    let most = rng.between(1, 6);
+    let mut keys = keys(rng, most, count);
+    if version == V1_0 {
+        shuffle_frames(rng, &mut keys, |key| key.0);
+    }
+    let (slots, segments) = (keys.len() + rng.below(2), segments_for(version, &names));
+    let (list, data) = (256 + 32 * slots, 256 + 32 * slots + SEGMENT * segments);
+    let mut image = blank(data, 256, slots as u64, list as u64, segments as u64);
+    put32(&mut image, 44, version);
+    let list_end = put_names(&mut image, list, names.iter().map(Vec::as_slice));
+    for (slot, &(frame, id)) in keys.iter().enumerate() {
+        let Row { kind, n, m, data, .. } = float_row(rng, version, &names[usize::from(id)]);
+        let gap = rng.below(9);
+        image.extend(rng.bytes(gap));
+        let location = image.len() as u64;
+        Slot { frame, n, location, m, id, kind, flags: 0 }.put(&mut image, 256 + 32 * slot);
+        image.extend(data);
+    }
+    if rng.chance(50) {
+        let behind = rng.below(40);
+        image.extend(rng.bytes(behind));
+    }
+    let (index, name_block) = ((256, 32 * slots), (list, SEGMENT * segments));
+    Layout { image, names, version, index, name_block, entries: keys.len(), list_end }
+}
+
+/// A step in seconds: mostly one with a finite time, some about the greatest of these in this frame.
+pub fn step(rng: &mut Rng, frame: u64) -> f64 {
+    let sign = rng.pick(&[0, 0, 1 << 63]);
+    let bits = match rng.below(12) {
+        0 => border_bits(rng, 8),
+        1 => (f64::MAX / frame.max(1) as f64).to_bits() - 2 + rng.below(5) as u64,
+        2 => number_bits(rng, 8),
+        3 => rng.number(),
+        4 => rng.pick(&[0, 1, 1 << 52, 1 << 51]),
+        5 | 6 => rng.pick(&[1.0, 60.0, 0.1, 2.5, 1e-3, 1.7e308_f64]).to_bits(),
+        // From 2^-31 on, below 2^33.
+        _ => (992 << 52) + rng.number() % (64 << 52),
+    };
+    f64::from_bits(bits ^ sign)
+}
+
+/// The length of a slice for the file of an entry: mostly the file's own.
+pub fn some_length(rng: &mut Rng, entry: [u64; 7]) -> usize {
+    let length = file_length(entry);
+    match rng.below(12) {
+        0 => length - 1,
+        1 => length + 1,
+        2 => rng.pick(&[0, 1, 27, 28, 29, length - 4, length + 4, length - 28, 2 * length]),
+        3 => rng.below(2 * length),
+        _ => length,
     }
 }
 

@@ -1,7 +1,7 @@
 //! The random groups of the driver. Each is a round that a seed repeats.
 
 use crate::ask::Ask;
-use crate::check::{names_of, Check};
+use crate::check::{names_of, Check, ODD_NAMES};
 use crate::demand3::{Call, Run};
 use crate::generate::{self, Layout};
 use crate::images::{
@@ -60,6 +60,7 @@ pub const GROUPS: &[Group] = &[
     group("readers of images as they are", 8000, readers::as_they_are),
     group("readers of earlier moments", 800, readers::of_earlier_moments),
     group("any words as a reader", 6000, readers::any_words),
+    group("NChilada files", 150_000, nchilada),
 ];
 
 /// Every call once, on whatever the image is.
@@ -71,6 +72,7 @@ fn touch(check: &mut Check, sheet: &[u8], limit: u64) {
     check.lookup(0, b"a");
     check.chunk(0, b"a");
     check.element(0, b"a", 0);
+    check.nchilada(0, b"a", 1.0, 40);
     check.append(sheet, limit);
 }
 
@@ -625,7 +627,7 @@ fn longest(check: &mut Check, _: &mut Rng) {
                 put_names(image, names, [&b"a"[..], b"b"]);
                 let mut slots = [
                     Slot::bytes(0, 0, 256, (index - 256) as u64),
-                    Slot::bytes(0, 1, (LONGEST - 1024) as u64, 500),
+                    Slot { n: 125, kind: 9, ..Slot::bytes(0, 1, (LONGEST - 1024) as u64, 0) },
                 ];
                 if version == V1_0 {
                     slots.reverse();
@@ -667,6 +669,10 @@ fn longest(check: &mut Check, _: &mut Rng) {
             let a = library.probes(theirs, 0, b"b", &mut x);
             let b = Reference.probes(ours, 0, b"b", &mut y);
             both(check, "probes", (a, &x), (b, &y));
+            let (mut x, mut y) = ([5; 536], [5; 536]);
+            let a = library.nchilada(theirs, 0, b"b", 60.0, &mut x);
+            let b = Reference.nchilada(ours, 0, b"b", 60.0, &mut y);
+            both(check, "nchilada", (a, &x.map(u64::from)), (b, &y.map(u64::from)));
             if joined {
                 let (mut x, mut y) = ([5; 3], [5; 3]);
                 let a = library.append(theirs, &sheet, limit, &mut x);
@@ -883,4 +889,34 @@ fn written(check: &mut Check, rng: &mut Rng) {
         }
     }
     check.open();
+}
+
+/// The file of every chunk, with steps of all kinds, and of chunks that are not there.
+fn nchilada(check: &mut Check, rng: &mut Rng) {
+    let mut layout = generate::float_image(rng);
+    match rng.below(12) {
+        0 => layout.bend(rng),
+        1 => layout.damage(rng),
+        _ => {}
+    }
+    let Layout { image, names, .. } = layout;
+    check.load(&image);
+    let entries = Reference.all_entries(&image).unwrap_or_default();
+    for &entry in &entries {
+        let name = Reference.nth_name(&image, entry[4]).unwrap();
+        for _ in 0..3 {
+            let length = generate::some_length(rng, entry);
+            check.nchilada(entry[0], name, generate::step(rng, entry[0]), length);
+        }
+    }
+    let behind = entries.last().map_or(0, |last| last[0] + 1);
+    for _ in 0..3 {
+        let frame = rng.pick(&[0, 1, behind / 2, behind, behind + (1 << 32) - 1, u64::MAX]);
+        let name = match rng.below(4) {
+            0 => rng.pick(&ODD_NAMES),
+            _ => rng.pick_ref(&names),
+        };
+        let length = rng.below(80);
+        check.nchilada(frame, name, generate::step(rng, frame), length);
+    }
 }

@@ -196,6 +196,15 @@ pub fn is_nan(element: &[u8]) -> bool {
     }
 }
 
+/// How long the NChilada file of a chunk is, by the fields of its entry; where it has none, by its type
+/// or M, not longer than can be lent at once.
+pub fn file_length([_, n, _, m, _, kind, _]: [u64; 7]) -> usize {
+    let row = u128::from(m) * size(kind as u8) as u128;
+    let length = 28 + (2 + u128::from(n)) * row;
+    let most = if matches!((kind, m), (9 | 10, 1 | 3)) { length } else { 4096 };
+    length.min(most) as usize
+}
+
 pub fn sheet(rows: &[Row]) -> Vec<u8> {
     let mut sheet = (rows.len() as u32).to_le_bytes().to_vec();
     for row in rows {

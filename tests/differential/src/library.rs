@@ -32,6 +32,9 @@ pub trait Library: Sync {
     fn element(&self, image: &[u8], frame: u64, name: &[u8], k: u64, out: &mut [u64; 2]) -> u64;
     /// The lookup's number. `out`: entries probed, 0 where no search was made.
     fn probes(&self, image: &[u8], frame: u64, name: &[u8], out: &mut [u64; 1]) -> u64;
+    /// Writes the NChilada file of a chunk, its time the frame times the step, into all of `file`; a
+    /// refusal leaves that as it was.
+    fn nchilada(&self, image: &[u8], frame: u64, name: &[u8], step: f64, file: &mut [u8]) -> u64;
     fn create(&self, image: &mut [u8], request: Create) -> u64;
     /// `out`: done, whole, and the listed entries that the whole append copies as it moves the index.
     fn append(&self, image: &mut [u8], sheet: &[u8], limit: u64, out: &mut [u64; 3]) -> u64;
@@ -171,6 +174,10 @@ impl Library for Reference {
         let Probes { count, answer } = reference::probes(image, frame, name);
         *out = [count];
         answer.err().unwrap_or(0)
+    }
+
+    fn nchilada(&self, image: &[u8], frame: u64, name: &[u8], step: f64, file: &mut [u8]) -> u64 {
+        reference::nchilada(image, frame, name, step, file).err().unwrap_or(0)
     }
 
     fn create(&self, image: &mut [u8], request: Create) -> u64 {
@@ -335,6 +342,22 @@ mod linked {
         fn probes(&self, image: &[u8], frame: u64, name: &[u8], out: &mut [u64; 1]) -> u64 {
             let (image, length) = (image.as_ptr(), image.len());
             unsafe { ffi::dialmoth_probes(image, length, frame, name.as_ptr(), name.len(), out) }
+        }
+
+        fn nchilada(
+            &self,
+            image: &[u8],
+            frame: u64,
+            name: &[u8],
+            step: f64,
+            file: &mut [u8],
+        ) -> u64 {
+            let (image, length) = (image.as_ptr(), image.len());
+            let (name, name_length) = (name.as_ptr(), name.len());
+            let (file, size) = (file.as_mut_ptr(), file.len());
+            unsafe {
+                ffi::dialmoth_nchilada(image, length, frame, name, name_length, step, file, size)
+            }
         }
 
         fn create(&self, image: &mut [u8], request: Create) -> u64 {

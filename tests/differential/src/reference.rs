@@ -1,5 +1,5 @@
-//! Document 01 in plain Rust, with what document 02 has changed of it (W-201 to W-206, W-208,
-//! W-211 and W-214), written from the papers alone.
+//! Document 01 in plain Rust, with what document 02 has changed of it (W-201 to W-208, W-211 and
+//! W-214), written from the papers alone.
 //!
 //! It is the independent second opinion of the differential tests and the baseline of the
 //! benchmark: a refusal is `Err` with its number, and nothing else is shared with the library.
@@ -22,6 +22,11 @@ const MOST_ROWS: usize = 64;
 const MOST_UNITS: u64 = 65_536;
 /// No entry has a frame above.
 const GREATEST_FRAME: u64 = 4_294_967_294;
+
+/// The first number of an NChilada file.
+const NCHILADA_MAGIC: u32 = 1_062_053;
+/// Bytes of it before the extremes.
+const NCHILADA_HEADER: usize = 28;
 
 /// Words of the state of an append in turns.
 pub const STATE_WORDS: usize = 406;
@@ -546,6 +551,104 @@ fn element_of(entry: Entry, data: &[u8], k: u64) -> Answer<Element> {
     })
 }
 
+/// Whether elements of this type, back to back, hold a NaN.
+fn holds_nan(kind: u8, data: &[u8]) -> bool {
+    match kind {
+        9 => any(data, |element| f32::from_le_bytes(element).is_nan()),
+        10 => any(data, |element| f64::from_le_bytes(element).is_nan()),
+        _ => false,
+    }
+}
+
+/// All elements are looked at: without an early way out the loop compiles to vector code.
+fn any<const SIZE: usize>(data: &[u8], test: impl Fn([u8; SIZE]) -> bool) -> bool {
+    data.as_chunks().0.iter().fold(false, |found, &element| found | test(element))
+}
+
+/// Writes the NChilada file of a chunk of floats or doubles, all of it big-endian.
+pub fn nchilada(image: &[u8], frame: u64, name: &[u8], step: f64, file: &mut [u8]) -> Answer<()> {
+    let image = Image::open(image)?;
+    let entry = image.lookup(frame, name)?;
+    let data = image.data(entry);
+    let Entry { n, m, kind, .. } = entry;
+    if !matches!((kind, m), (9 | 10, 1 | 3)) {
+        return Err(60);
+    }
+    if n == 0 {
+        return Err(61);
+    }
+    if holds_nan(kind, data) {
+        return Err(62);
+    }
+    let time = entry.frame as f64 * step;
+    if !step.is_finite() || !time.is_finite() {
+        return Err(63);
+    }
+    let extremes = 2 * data.len() / n as usize;
+    if file.len() != NCHILADA_HEADER + extremes + data.len() {
+        return Err(64);
+    }
+
+    let (header, rest) = file.split_at_mut(NCHILADA_HEADER);
+    header[..4].copy_from_slice(&NCHILADA_MAGIC.to_be_bytes());
+    header[4..12].copy_from_slice(&time.to_be_bytes());
+    header[12..20].copy_from_slice(&n.to_be_bytes());
+    header[20..24].copy_from_slice(&m.to_be_bytes());
+    header[24..].copy_from_slice(&u32::from(kind).to_be_bytes());
+    match kind {
+        9 => put_columns(rest, data, m, f32::from_le_bytes, f32::to_be_bytes),
+        _ => put_columns(rest, data, m, f64::from_le_bytes, f64::to_be_bytes),
+    }
+    Ok(())
+}
+
+/// Writes what follows the header of an NChilada file of one column or three.
+fn put_columns<F: Copy + PartialOrd, const SIZE: usize>(
+    to: &mut [u8],
+    data: &[u8],
+    columns: u32,
+    read: impl Fn([u8; SIZE]) -> F,
+    big_endian: impl Fn(F) -> [u8; SIZE],
+) {
+    let (elements, _) = data.as_chunks();
+    let (to, _) = to.as_chunks_mut();
+    let from = match columns {
+        1 => put_extremes::<F, SIZE, 1>(to, elements, &read, big_endian),
+        _ => put_extremes::<F, SIZE, 3>(to, elements, &read, big_endian),
+    };
+    for (to, &element) in to[from..].iter_mut().zip(elements) {
+        *to = element;
+        to.reverse();
+    }
+}
+
+/// Writes the smallest value of each column, then the largest of each, and answers how many that are.
+/// Of equal values, as zeros of both signs are, the first is kept.
+fn put_extremes<F: Copy + PartialOrd, const SIZE: usize, const COLUMNS: usize>(
+    to: &mut [[u8; SIZE]],
+    elements: &[[u8; SIZE]],
+    read: impl Fn([u8; SIZE]) -> F,
+    big_endian: impl Fn(F) -> [u8; SIZE],
+) -> usize {
+    let (rows, _) = elements.as_chunks::<COLUMNS>();
+    let mut smallest = rows[0].map(&read);
+    let mut largest = smallest;
+    for row in &rows[1..] {
+        for (column, &element) in row.iter().enumerate() {
+            let value = read(element);
+            if value < smallest[column] {
+                smallest[column] = value;
+            }
+            if largest[column] < value {
+                largest[column] = value;
+            }
+        }
+    }
+    let extremes = smallest.into_iter().chain(largest);
+    to.iter_mut().zip(extremes).for_each(|(to, value)| *to = big_endian(value));
+    2 * COLUMNS
+}
+
 pub fn probes(image: &[u8], frame: u64, name: &[u8]) -> Probes {
     match Image::open(image).and_then(|image| Ok((image.key(frame, name)?, image))) {
         Ok((key, image)) => image.search(key),
@@ -766,21 +869,6 @@ struct Row<'s> {
     data: &'s [u8],
 }
 
-impl Row<'_> {
-    fn holds_nan(&self) -> bool {
-        match self.kind {
-            9 => any(self.data, |element| f32::from_le_bytes(element).is_nan()),
-            10 => any(self.data, |element| f64::from_le_bytes(element).is_nan()),
-            _ => false,
-        }
-    }
-}
-
-/// All elements are looked at: without an early way out the loop compiles to vector code.
-fn any<const SIZE: usize>(data: &[u8], test: impl Fn([u8; SIZE]) -> bool) -> bool {
-    data.as_chunks().0.iter().fold(false, |found, &element| found | test(element))
-}
-
 /// The rows of a sheet, by the types of the image's version.
 fn rows(sheet: &[u8], version: Version) -> Answer<Vec<Row<'_>>> {
     let (count, rest) = sheet.split_first_chunk().ok_or(22_u64)?;
@@ -815,7 +903,7 @@ fn rows(sheet: &[u8], version: Version) -> Answer<Vec<Row<'_>>> {
     if rows.iter().enumerate().any(twice) {
         return Err(27);
     }
-    if rows.iter().any(Row::holds_nan) {
+    if rows.iter().any(|row| holds_nan(row.kind, row.data)) {
         return Err(30);
     }
     Ok(rows)

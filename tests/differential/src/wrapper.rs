@@ -1,10 +1,11 @@
 //! The safe Rust calls of the package dialmoth say what the C functions say.
 
-use crate::ask::{Answer, Ask};
+use crate::ask::{any_bytes, Answer, Ask};
 use crate::cases::{sheet_a, sheet_b};
 use crate::generate::{self, Layout};
 use crate::images::{
-    blank, frames_to_ask, put32, put_names, sheet, size, version, Slot, GREATEST_FRAME, V1_0,
+    blank, file_length, frames_to_ask, put32, put_names, sheet, size, version, Slot,
+    GREATEST_FRAME, V1_0,
 };
 use crate::library::Linked;
 use crate::random::Rng;
@@ -76,6 +77,7 @@ pub fn hold() {
     old_files_take_none();
     copies_are_counted();
     turns_are_refused();
+    files_are_refused();
 }
 
 fn appends(rng: &mut Rng, image: &mut [u8], known: &mut Vec<Vec<u8>>) {
@@ -131,6 +133,30 @@ fn lookups(image: &[u8], known: &[Vec<u8>]) {
             let element = dialmoth::element(image, frame, name, k);
             let element = element.map(kind_and_bits).map_err(number);
             assert_eq!(element, Linked.nth_element(image, frame, name, k));
+        }
+        files(image, frame, name);
+    }
+}
+
+/// As a slice that is lent and as one that is made, with a step whose time is finite in every frame,
+/// and one whose time is in frame 0 alone.
+fn files(image: &[u8], frame: u64, name: &[u8]) {
+    let found = Linked.find(image, frame, name);
+    let length = found.map_or(0, file_length);
+    if let Ok(entry) = dialmoth::lookup(image, frame, name) {
+        let refused = Linked.file(image, frame, name, 1.0, length).err();
+        let none = matches!(refused, Some(60 | 61));
+        assert_eq!(entry.nchilada_length(), (!none).then_some(length));
+    }
+    for step in [-2.5, f64::MAX] {
+        let expected = Linked.file(image, frame, name, step, length);
+        assert_eq!(dialmoth::nchilada_file(image, frame, name, step).map_err(number), expected);
+        for length in [length, length + 1] {
+            let mut file = any_bytes(length);
+            let answer = dialmoth::nchilada(image, frame, name, step, &mut file).map_err(number);
+            let expected = Linked.file(image, frame, name, step, length);
+            assert_eq!(answer, expected.as_ref().map(|_| ()).map_err(|&number| number));
+            assert_eq!(file, expected.unwrap_or_else(|_| any_bytes(length)));
         }
     }
 }
@@ -265,4 +291,44 @@ fn turns_are_refused() {
         assert_eq!(dialmoth::open(&image).map(|counts| counts.frames), Ok(1 + stores / 43));
         assert_eq!(dialmoth::turn(&mut state, &mut image, &sheet, 1), Ok(u64::from(stores < 43)));
     }
+}
+
+fn files_are_refused() {
+    let mut image = blank(1024, 256, 2, 320, 1);
+    let readings = [21.5, -0.5, f32::INFINITY].map(f32::to_le_bytes);
+    let probe =
+        Row { name: b"probe", kind: Type::Float, n: 3, m: 1, data: readings.as_flattened() };
+    let rows = [
+        probe,
+        Row { name: b"two", n: 1, m: 2, data: &[0; 8], ..probe },
+        Row { name: b"none", n: 0, data: b"", ..probe },
+        Row { name: b"bytes", kind: Type::U8, data: b"123", ..probe },
+    ];
+    let stores = dialmoth::append(&mut image, &dialmoth::sheet(&rows), u64::MAX);
+    assert!(stores.is_ok_and(Stores::is_whole));
+    let length = |name: &[u8]| dialmoth::lookup(&image, 0, name).unwrap().nchilada_length();
+    let lengths = [&b"probe"[..], b"two", b"none", b"bytes"].map(length);
+    assert_eq!(lengths, [Some(48), None, None, None]);
+    for (name, step, refusal) in [
+        (&b"other"[..], 60.0, Refusal::NO_NAME),
+        (b"two", f64::NAN, Refusal::NOT_FLOATS),
+        (b"bytes", f64::NAN, Refusal::NOT_FLOATS),
+        (b"none", f64::NAN, Refusal::NO_ROWS),
+        (b"probe", f64::NAN, Refusal::NOT_FINITE),
+    ] {
+        assert_eq!(dialmoth::nchilada_file(&image, 0, name, step), Err(refusal));
+        assert_eq!(dialmoth::nchilada(&image, 0, name, step, &mut [0; 47]), Err(refusal));
+    }
+    for length in [0, 47, 49] {
+        let short = dialmoth::nchilada(&image, 0, b"probe", 60.0, &mut vec![0; length]);
+        assert_eq!(short, Err(Refusal::FILE_LENGTH));
+    }
+    let mut file = [0; 48];
+    assert_eq!(dialmoth::nchilada(&image, 0, b"probe", 60.0, &mut file), Ok(()));
+    assert_eq!(dialmoth::nchilada_file(&image, 0, b"probe", 60.0), Ok(file.to_vec()));
+    // The third reading becomes a NaN.
+    let location = dialmoth::lookup(&image, 0, b"probe").unwrap().location as usize;
+    image[location + 8] = 1;
+    let refused = dialmoth::nchilada_file(&image, 0, b"probe", 60.0);
+    assert_eq!(refused, Err(Refusal::NAN_IN_CHUNK));
 }

@@ -321,6 +321,13 @@ fn readers_of_images_as_they_are_notice_what_breaks_them() {
     run_notices("readers of images as they are", &faults);
 }
 
+/// All faults of files, by those alone.
+#[test]
+fn nchilada_files_notice_what_breaks_them() {
+    let of_files = Fault::ALL.iter().filter(|fault| format!("{fault:?}").starts_with("File"));
+    run_notices("NChilada files", &of_files.copied().collect::<Vec<_>>());
+}
+
 /// An index that grows otherwise breaks the bounds of what is copied in all, though each append
 /// answers what it copies.
 #[test]

@@ -97,6 +97,23 @@ pub unsafe extern "C" fn dialmoth_probes(
 /// # Safety
 /// As `dialmoth_open`.
 #[no_mangle]
+pub unsafe extern "C" fn dialmoth_nchilada(
+    image: *const u8,
+    length: usize,
+    frame: u64,
+    name: *const u8,
+    name_length: usize,
+    step: f64,
+    file: *mut u8,
+    file_length: usize,
+) -> u64 {
+    let (image, name) = (part(image, length), part(name, name_length));
+    Reference.nchilada(image, frame, name, step, part_mut(file, file_length))
+}
+
+/// # Safety
+/// As `dialmoth_open`.
+#[no_mangle]
 pub unsafe extern "C" fn dialmoth_create(
     image: *mut u8,
     length: usize,

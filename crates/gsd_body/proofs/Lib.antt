@@ -1,0 +1,2 @@
+-- Laws of bodies.
+pub mod Bodies

@@ -1,0 +1,2 @@
+-- What stands behind the head of an NChilada file.
+pub mod Body

@@ -1,0 +1,4 @@
+-- Laws of columns and their extremes.
+pub mod Order
+pub mod Extremes
+pub mod Columns

@@ -1,0 +1,2 @@
+-- Laws of big-endian numbers.
+pub mod Xdr

@@ -1,0 +1,2 @@
+-- Big-endian numbers.
+pub mod Xdr
