@@ -1,6 +1,8 @@
 // The C interface. A slice is a pointer and its length, an array of fixed length a pointer. Each call answers its number,
 // 0 for none; its values go to out, which a refusal leaves as it was. Only probes, append, begin and turn set theirs at every
 // call. A reader is eight words lent by the caller.
+#![tactic(auto)]
+
 ghost use Rattle.std.specs.Prelude.{◌≡◌, [], ◌∷◌, length};
 ghost use Rattle.gsd_format.specs.Opening.{opening};
 ghost use Rattle.gsd_format.specs.Lookup.{nth_entry, nth_name, lookup, chunk_place};

@@ -1,4 +1,6 @@
 // The append: in turns, by a state that a beginning gives and each turn gives back, and as one call, which is the two joined.
+#![tactic(auto)]
+
 mod state;
 
 ghost use Rattle.std.specs.Prelude.{◌≡◌};

@@ -1,4 +1,6 @@
 // Bytes of a slice: little-endian numbers read and stored, parts compared, zeros found and written, NaNs found, the magic, the types.
+#![tactic(auto)]
+
 ghost use Rattle.std.specs.Prelude.{◌≡◌, ◌+◌, ◌-◌, ◌*◌, ◌<◌, ◌≤◌, length, take};
 ghost use Rattle.gsd_format.specs.Bytes.{le, le_bytes, part, same, zeros, stored};
 ghost use Rattle.gsd_format.specs.Header.{magic, v10, aligned};

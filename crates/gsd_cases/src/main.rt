@@ -1,5 +1,7 @@
 // Runs tables of cases, the files that its arguments name, and prints each answer that differs. A table has a line for each
 // thing that is made or asked (words.rt of gsd_lines lists the forms); "#" begins a case, "-" a comment.
+#![tactic(auto)]
+
 mod ask;
 mod call;
 mod nchilada;

@@ -11,7 +11,7 @@ ghost use Rattle.gsd_columns.specs.Scans.{strided, Extremes, Patterned, Joined, 
 use gsd_bytes::u64_at;
 
 // The smallest and the largest value of a column.
-#[derive(Drop)]
+#[derive(Clone, Copy)]
 pub struct Extremes64 {
     pub smallest: f64,
     pub largest: f64,
@@ -120,7 +120,7 @@ pub fn column64(s: &[u8], at: usize, n: usize) -> Extremes64
 }
 
 // The extremes of three columns.
-#[derive(Drop)]
+#[derive(Clone, Copy)]
 pub struct Three64 {
     pub x: Extremes64,
     pub y: Extremes64,

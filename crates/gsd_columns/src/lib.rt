@@ -1,4 +1,6 @@
 // The extremes of columns of floats and doubles, of which none is a NaN. It is leaf code: its functions have a `requires`.
+#![tactic(auto)]
+
 mod doubles;
 mod singles;
 

@@ -11,7 +11,7 @@ ghost use Rattle.gsd_columns.specs.Scans.{strided, Extremes, Patterned, Joined, 
 use gsd_bytes::u32_at;
 
 // The smallest and the largest value of a column.
-#[derive(Drop)]
+#[derive(Clone, Copy)]
 pub struct Extremes32 {
     pub smallest: f32,
     pub largest: f32,
@@ -120,7 +120,7 @@ pub fn column32(s: &[u8], at: usize, n: usize) -> Extremes32
 }
 
 // The extremes of three columns.
-#[derive(Drop)]
+#[derive(Clone, Copy)]
 pub struct Three32 {
     pub x: Extremes32,
     pub y: Extremes32,

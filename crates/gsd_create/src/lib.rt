@@ -1,4 +1,6 @@
 // Creates a fresh image at the front of a lent slice: header, an empty index block, an empty name block.
+#![tactic(auto)]
+
 ghost use Rattle.std.specs.Prelude.{◌≡◌};
 ghost use Rattle.gsd_format.specs.Create.{or_default, bad_text, create_test, create_number, created};
 

@@ -20,7 +20,7 @@ pub const NUMBER: u64 = 2;
 pub const NAME: u64 = 3;
 
 // So many words from place `to` upwards, stored one after the other. The kind says what they are.
-#[derive(Drop)]
+#[derive(Clone, Copy)]
 pub struct Extent {
     pub kind: u64,
     pub to: usize,

@@ -1,5 +1,7 @@
 // Whether a plan, whose words may be any, can be carried out on an image of n bytes with a sheet of m. Only `is_feasible` is
 // called from outside; what it asks for is a plan's length.
+#![tactic(auto)]
+
 ghost use Rattle.std.specs.Prelude.{◌≡◌, ◌≤◌, ◌<◌, length};
 ghost use Rattle.gsd_stores.specs.Sheet.{most_rows};
 ghost use Rattle.gsd_sheet.specs.Columns.{plan_words};

@@ -1,4 +1,6 @@
 // Lists each file that an argument names, under its name, or says on standard error why it cannot be read.
+#![tactic(auto)]
+
 use libc::STDOUT_FILENO;
 
 // `io::read_full` answers a short count at the file's end and where a read fails; only at the end a further read gives 0.

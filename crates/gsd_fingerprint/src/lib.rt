@@ -1,5 +1,7 @@
 // The fingerprint of a text, as specs/Fingerprint.antt defines it: eight bytes a step, and at most two steps where there are
 // under eight. It tells unequal names apart without their bytes; equal ones are still compared.
+#![tactic(auto)]
+
 ghost use Rattle.std.specs.Prelude.{◌≡◌, ◌+◌, ◌*◌, ◌≤◌, length};
 ghost use Rattle.gsd_format.specs.Bytes.{le};
 ghost use Rattle.gsd_fingerprint.specs.Fingerprint as Fingerprint;

@@ -1,9 +1,10 @@
 // The answers of the library's calls. What each call answers is defined in specs/, in the order of GSD's own
 // description: bytes, header, names, entries, opening, lookup, elements, readers, fresh images, the listing.
+#![tactic(auto)]
 
 // An index entry: all 32 bytes of it. The format's N and M are n and m, its type is kind. The location is an i64 in
 // the file; in a listed entry of an image that opens it is never negative.
-#[derive(Drop)]
+#[derive(Clone, Copy)]
 pub struct Entry {
     pub frame: u64,
     pub n: u64,
@@ -15,7 +16,7 @@ pub struct Entry {
 }
 
 // Where an image's lists are, and in which version: the slice's length, then what the header says.
-#[derive(Drop)]
+#[derive(Clone, Copy)]
 pub struct Layout {
     pub len: usize,
     pub version: u64,
@@ -26,14 +27,14 @@ pub struct Layout {
 }
 
 // A part of the image: size bytes from start.
-#[derive(Drop)]
+#[derive(Clone, Copy)]
 pub struct Part {
     pub start: usize,
     pub size: usize,
 }
 
 // What an image holds.
-#[derive(Drop)]
+#[derive(Clone, Copy)]
 pub struct Counts {
     pub frames: u64,
     pub names: u64,
@@ -41,35 +42,35 @@ pub struct Counts {
 }
 
 // What opening answers. A refusal carries its number, and so in every answer below.
-#[derive(Drop)]
+#[derive(Clone, Copy)]
 pub enum Opening {
     Open(Counts),
     Refused(u64),
 }
 
 // What the lookup and the n-th entry answer.
-#[derive(Drop)]
+#[derive(Clone, Copy)]
 pub enum Listed {
     Found(Entry),
     Refused(u64),
 }
 
 // What the search answers: the lookup's answer, and how many entries it probed.
-#[derive(Drop)]
+#[derive(Clone, Copy)]
 pub struct Searched {
     pub answer: Listed,
     pub probes: u64,
 }
 
 // What the n-th name and the place of a chunk answer.
-#[derive(Drop)]
+#[derive(Clone, Copy)]
 pub enum Place {
     At(Part),
     Refused(u64),
 }
 
 // An element of a chunk. A float comes with its bits: a NaN's own bits cannot be had from a float.
-#[derive(Drop)]
+#[derive(Clone, Copy)]
 pub enum Element {
     Unsigned(u64),
     Signed(i64),
@@ -80,7 +81,7 @@ pub enum Element {
 
 // What an opened image is read by without its tests: its counts, where its entries and its names begin, how many bytes the
 // list of names takes, and its version. Any numbers may stand here.
-#[derive(Drop)]
+#[derive(Clone, Copy)]
 pub struct Reader {
     pub frames: u64,
     pub names: u64,
@@ -92,14 +93,14 @@ pub struct Reader {
 }
 
 // What opening a reader answers.
-#[derive(Drop)]
+#[derive(Clone, Copy)]
 pub enum Reading {
     Ready(Reader),
     Refused(u64),
 }
 
 // What asking for a name's id answers.
-#[derive(Drop)]
+#[derive(Clone, Copy)]
 pub enum Ident {
     Is(u64),
     Refused(u64),

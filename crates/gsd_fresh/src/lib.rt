@@ -1,5 +1,7 @@
 // Leaf code of create: a fresh image at the front of a slice that has room for it, header, an empty index block and an
 // empty name block.
+#![tactic(auto)]
+
 ghost use Rattle.std.specs.Prelude.{◌≡◌, ◌+◌, ◌≤◌, length};
 ghost use Rattle.gsd_format.specs.Bytes.{stored};
 ghost use Rattle.gsd_format.specs.Header.{application_place, text_size};

@@ -1,5 +1,7 @@
 // Leaf code of the append, which 1.0 refuses: the ids of the rows' names. A listed name has its place in the list, the new
 // ones follow in the order of rows. The module order sorts rows by their ids.
+#![tactic(auto)]
+
 mod order;
 
 ghost use Rattle.std.specs.Prelude.{◌≡◌, false, ◌+◌, ◌-◌, ◌≤◌, ◌<◌, length};
@@ -16,7 +18,7 @@ use gsd_sheet::{DATA_FROM, NAME_FROM, NEW_ROW, SLOT_PAIR};
 use order::sort;
 
 // How many names are new, and their bytes in a name list.
-#[derive(Drop)]
+#[derive(Clone, Copy)]
 pub struct NewNames {
     pub count: usize,
     pub size: usize,

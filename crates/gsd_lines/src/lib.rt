@@ -1,5 +1,7 @@
 // A line of a table of cases, read byte by byte: its word and its numbers. Numbers are decimal and below 2^64. In a text a
 // capital letter stands for the byte that is its place in the alphabet, and @ for a zero, so that every line is plain to read.
+#![tactic(auto)]
+
 pub mod words;
 
 ghost use Rattle.std.specs.Prelude.{◌≤◌, length};
@@ -40,7 +42,7 @@ const ANSWER: u8 = 3;
 
 // A number's value, or where a text or an answer starts; and what the last byte adds to the form: a letter, 0 for a number,
 // ' for a text, the sign =, ! for what cannot be read, or nothing.
-#[derive(Drop)]
+#[derive(Clone, Copy)]
 struct Reader {
     mode: u8,
     value: u64,
@@ -98,7 +100,7 @@ fn read(r: Reader, c: u8, i: u64) -> Reader {
 }
 
 // A line's last five numbers; the last is e.
-#[derive(Drop)]
+#[derive(Clone, Copy)]
 pub struct Numbers {
     pub a: u64,
     pub b: u64,
@@ -134,7 +136,7 @@ fn formed(form: &mut [u8; 16], len: usize, sign: u8) -> usize {
 }
 
 // A line's word, by its place in the list of words; and the text of its answer, which the sign = tells.
-#[derive(Drop)]
+#[derive(Clone, Copy)]
 pub struct Line {
     pub word: usize,
     pub numbers: Numbers,

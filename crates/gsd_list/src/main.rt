@@ -1,4 +1,6 @@
 // Lists the image on standard input, or says on standard error why it cannot be read.
+#![tactic(auto)]
+
 use libc::{STDIN_FILENO, STDOUT_FILENO};
 
 // `io::read_full` answers a short count at the input's end and where a read fails; only at the end a further read gives 0.

@@ -1,4 +1,6 @@
 // The listing as one text: what is printed for an input. The image is opened once.
+#![tactic(auto)]
+
 ghost use Rattle.std.specs.Prelude.{◌≡◌, ◌++◌, ◌+◌, ◌*◌, ◌≤◌, length, take};
 ghost use Rattle.gsd_format.specs.Header.{layout_of};
 ghost use Rattle.gsd_format.specs.Entries.{entries_of};

@@ -1,5 +1,7 @@
 // The name list: found in one pass as the places behind its names, then tested and searched. It is leaf code: its
 // functions have a `requires`.
+#![tactic(auto)]
+
 mod list;
 mod number;
 mod prints;

@@ -17,7 +17,7 @@ const SEGMENT: usize = SEGMENT_SIZE as usize;
 // The names of a name block: their number, where their list ends, and whether a name is not closed, which makes the others
 // void. Their places are kept beside it, in an array `starts`: that of the block, and where there are at most 1,024 names
 // the place behind the zero of each.
-#[derive(Drop)]
+#[derive(Clone, Copy)]
 pub struct NameList {
     pub count: usize,
     pub list_end: usize,

@@ -1,4 +1,6 @@
 // NChilada files of chunks: one property of a frame as the physicists' programs read it.
+#![tactic(auto)]
+
 ghost use Rattle.std.specs.Prelude.{◌≡◌, length};
 ghost use Rattle.gsd_nchilada.specs.Request.{nchilada_number, nchilada_file};
 

@@ -26,7 +26,7 @@ const BEYOND: u64 = 1073741825;
 
 // What the walk over the entries finds: a refusal's number or 0, and where that is 0 the entries, the least key that could
 // follow them and where the last of the chunks ends.
-#[derive(Drop)]
+#[derive(Clone, Copy)]
 pub struct Walk {
     pub number: u64,
     pub entries: u64,

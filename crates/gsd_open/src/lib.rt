@@ -1,5 +1,7 @@
 // Opening an image once: header, blocks, name list and one walk over the entries make a survey, and every call for users
 // answers from one. It is leaf code: its functions have a `requires`.
+#![tactic(auto)]
+
 mod header;
 mod index;
 mod refusal;

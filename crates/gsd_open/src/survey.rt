@@ -10,7 +10,7 @@ use gsd_names::{NameList, PLACES, name_list, names_number};
 
 // The opening's number; where that is 0, where the blocks lie, the name list, the counts of entries and frames, and
 // where the last of the chunks ends.
-#[derive(Drop)]
+#[derive(Clone, Copy)]
 pub struct Survey {
     pub number: u64,
     pub layout: Layout,

@@ -1,5 +1,7 @@
 // Leaf code of the C interface: an answer's values go to a caller's out array, and nothing of a refusal. The number is
 // answered. A refusal's is never 0, and callers show that.
+#![tactic(auto)]
+
 ghost use Rattle.std.specs.Prelude.{◌≡◌};
 ghost use Rattle.gsd_format.specs.declared.Opening.{Opening};
 ghost use Rattle.gsd_format.specs.declared.Listed.{Listed};

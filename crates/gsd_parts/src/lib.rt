@@ -1,5 +1,7 @@
 // Parts of an image handed out as they lie: the bytes at a place, and not a copy. It is leaf code: its functions have a
 // `requires`.
+#![tactic(auto)]
+
 ghost use Rattle.std.specs.Prelude.{◌≡◌, ◌+◌, ◌-◌, ◌≤◌, length};
 ghost use Rattle.gsd_format.specs.Bytes.{part};
 ghost use Rattle.gsd_format.specs.Lookup.{bytes_at};

@@ -1,5 +1,7 @@
 // Leaf code of the append: where its parts go. The end of use, the data row by row, the new names, the blocks behind the data.
 // Its functions have a `requires`.
+#![tactic(auto)]
+
 ghost use Rattle.std.specs.Prelude.{◌≡◌, ◌+◌, ◌*◌, ◌≤◌, ◌<◌, max, length};
 ghost use Rattle.gsd_format.specs.Header.{header_size, greatest_length, aligned};
 ghost use Rattle.gsd_stores.specs.View.{index_end, namelist_end};
@@ -105,7 +107,7 @@ fn behind_units(count: u64, at: u64, unit: u64, position: u64) -> u64
 }
 
 // Where a block that does not suffice starts, its new count (0 if it stays), and the position behind it.
-#[derive(Drop)]
+#[derive(Clone, Copy)]
 pub struct Sites {
     pub names_at: u64,
     pub segments: u64,

@@ -1,5 +1,7 @@
 // The plan of an append: every test in its order, and every place and number found before the first store. It is leaf code of
 // the append: its functions have a `requires`.
+#![tactic(auto)]
+
 mod put;
 
 ghost use Rattle.std.specs.Prelude.{◌≡◌, false, length};

@@ -1,4 +1,6 @@
 // RawArray files: a chunk written as one, and one read back into the sheet of an append.
+#![tactic(auto)]
+
 ghost use Rattle.std.specs.Prelude.{◌≡◌, length};
 ghost use Rattle.gsd_rawarray.specs.Requests.{write_test, written_file, read_test, read_sheet};
 

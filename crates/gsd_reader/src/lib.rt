@@ -1,5 +1,7 @@
 // A reader: an image is opened once, then read without its tests. Any reader may be offered with any image; what does not
 // fit is refused with 33. One that opening gave answers as of its moment, whatever appends are made to the image later.
+#![tactic(auto)]
+
 mod fit;
 mod found;
 mod names;

@@ -12,7 +12,7 @@ use gsd_names::same_name;
 const SEGMENT: usize = SEGMENT_SIZE as usize;
 
 // Where a name ends, and where the next may start; the latter is where the name itself would start if there is none.
-#[derive(Drop)]
+#[derive(Clone, Copy)]
 pub struct Name {
     pub end: usize,
     pub next: usize,

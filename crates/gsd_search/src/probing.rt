@@ -8,7 +8,7 @@ use gsd_format::Entry;
 use gsd_open::entry_at;
 
 // What is sought, and where: the entry of a frame and an id, in count slots from index on, in the order of a version.
-#[derive(Drop)]
+#[derive(Clone, Copy)]
 pub struct Query {
     pub index: u64,
     pub count: u64,

@@ -1,4 +1,6 @@
 // The append sheet: its tests, numbers 22 to 27 and 30, and where the name and the data of each row lie in it.
+#![tactic(auto)]
+
 ghost use Rattle.std.specs.Prelude.{◌≡◌, ◌+◌, ◌*◌, ◌≤◌, ◌<◌, min, length, get_or, ltb};
 ghost use Rattle.gsd_format.specs.Bytes.{same};
 ghost use Rattle.gsd_format.specs.Types.{size_of};

@@ -1,5 +1,7 @@
 // Leaf code of the append in turns: the words of a state, which a beginning fills and a turn tests, carries on and moves on.
 // Its functions have a `requires`.
+#![tactic(auto)]
+
 ghost use Rattle.std.specs.Prelude.{◌≡◌, ◌+◌, ◌≤◌, min, length, take};
 ghost use Rattle.gsd_format.specs.Header.{header_size};
 ghost use Rattle.gsd_stores.specs.Append.{append_test};
@@ -55,7 +57,7 @@ fn start(words: &mut [u64], image: &[u8], sheet: &[u8]) -> u64
 }
 
 // The append's number, how many stores the whole append takes, and how many listed entries it copies.
-#[derive(Drop)]
+#[derive(Clone, Copy)]
 pub struct Counts {
     pub number: u64,
     pub whole: u64,

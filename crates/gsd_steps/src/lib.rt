@@ -1,4 +1,6 @@
 // Leaf code of the append: the extents of a plan, in the order of the append's steps 1 to 6. Its functions have a `requires`.
+#![tactic(auto)]
+
 pub mod numbers;
 
 ghost use Rattle.std.specs.Prelude.{◌≡◌, ◌+◌, ◌-◌, ◌*◌, ◌/◌, ◌%◌, ◌≤◌, ◌<◌, min, get_or, length};
@@ -109,7 +111,7 @@ fn data_extent(plan: &[u64], i: usize) -> Extent
 
 // A block that moves to `to`, where it has so many words; its list lies from `from` to `until`, its place and its new count
 // go to the header. With the count 0 it stays.
-#[derive(Drop)]
+#[derive(Clone, Copy)]
 pub struct Move {
     pub to: usize,
     pub words: usize,

@@ -1,9 +1,10 @@
 // What an append answers. The sheet, the stores of an append and a run of appends are defined in specs/; that a run of
 // appends keeps everything it found is proved in proofs/.
+#![tactic(auto)]
 
 // The number, 0 for none, how many stores were done, how many the whole append takes, and how many listed entries it
 // copies where it moves the index.
-#[derive(Drop)]
+#[derive(Clone, Copy)]
 pub struct Appended {
     pub number: u64,
     pub done: u64,

@@ -9,7 +9,7 @@ use libc::STDOUT_FILENO;
 use std::num::wrapping_add_u64;
 
 // How long the slice is that is lent, where the sheet ends, and what is counted. idle: the case has asked nothing yet.
-#[derive(Drop)]
+#[derive(Clone, Copy)]
 pub struct State {
     pub len: u64,
     pub end: u64,

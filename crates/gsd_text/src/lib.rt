@@ -1,5 +1,7 @@
 // The lines of a listing. Each comes with the text that the format's definitions give it, as the first `size` of 128 bytes;
 // the bytes behind the text are free, and nobody reads them.
+#![tactic(auto)]
+
 mod put;
 
 ghost use Rattle.std.specs.Prelude.{◌≡◌, ◌≤◌, ◌<◌, [], ◌∷◌, ◌++◌, take};
@@ -9,7 +11,7 @@ ghost use Rattle.gsd_format.specs.Listing.{fields, entry_line, counts_line};
 use gsd_format::Entry;
 
 // A line: the first size bytes, its newline among them. What the bytes behind them are is free.
-#[derive(Drop)]
+#[derive(Clone, Copy)]
 pub struct Line {
     pub bytes: [u8; 128],
     pub size: usize,

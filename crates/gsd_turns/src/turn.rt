@@ -9,7 +9,7 @@ use gsd_steps::numbers::{FRESH, ROWS};
 use gsd_steps::{extent_at, front_extent};
 
 // The cursor (the next extent, and the next word of it) and how many stores were made.
-#[derive(Drop)]
+#[derive(Clone, Copy)]
 pub struct Turned {
     pub extent: usize,
     pub word: usize,
@@ -74,7 +74,7 @@ pub fn turn(
 }
 
 // An extent, and a word of it.
-#[derive(Drop)]
+#[derive(Clone, Copy)]
 pub struct Place {
     pub extent: usize,
     pub word: usize,

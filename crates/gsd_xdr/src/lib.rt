@@ -1,5 +1,7 @@
 // Big-endian numbers, as XDR has them: one stored at a place, and those of a stretch stored in a row. It is leaf code: its functions
 // have a `requires`.
+#![tactic(auto)]
+
 ghost use Rattle.std.specs.Prelude.{◌≡◌, ◌+◌, ◌*◌, ◌≤◌, ◌<◌, length};
 ghost use Rattle.gsd_format.specs.Bytes.{le_bytes, stored};
 ghost use Rattle.gsd_xdr.specs.Xdr.{be_bytes, be_row, numbers};
