@@ -1,0 +1,11 @@
+-- A float's bits are a number of 32 bits.
+use native.Mathlib.Omega.{arith}
+use Rattle.gsd_body.proofs.Bodies.{bits-bound}
+use borrow.Author.Rules.{rules}
+use Rattle.gsd_body.proofs.singles.put_f32.Goals as goal
+
+pub overflow_cast-x : goal.overflow_cast-x
+overflow_cast-x c = record { fits = let l = bits-bound c.args.x c.well-formed.1.1.0.1 in omega arith }
+
+pub put_be32-requires-clause-bound : goal.put_be32-requires-clause-bound
+put_be32-requires-clause-bound c = bits-bound c.args.x c.well-formed.1.1.0.1

@@ -1,0 +1,10 @@
+-- `gsd_bytes::same_bytes` meets its contract: the bytes passed are the same.
+use Rattle.std.proofs.Common.{◌-◌, ◌≤◌, sym, arith, rules, below_more}
+use Rattle.gsd_format.proofs.Bytes.{Same, same-yes, same-no}
+use Rattle.gsd_bytes.proofs.same_bytes.Given as goal
+
+abbrev pub invariant-loop-i : goal.invariant-loop-i
+invariant-loop-i l = (l.i ≤ l.n) × Same l.a l.ai l.b l.bi l.i
+
+abbrev pub decreases-loop-i : goal.decreases-loop-i
+decreases-loop-i l = l.n - l.i

@@ -1,0 +1,7 @@
+-- `gsd_bytes::u16_at` meets its contract.
+use Rattle.std.proofs.Common.{rules}
+use Rattle.gsd_format.proofs.Bytes.{le-two}
+use Rattle.gsd_bytes.proofs.u16_at.Goals as goal
+
+pub returns : goal.returns
+returns c = record { answer = rw le-two (search rules); bound = rw le-two (search rules) }

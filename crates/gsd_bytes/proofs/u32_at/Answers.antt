@@ -1,0 +1,7 @@
+-- `gsd_bytes::u32_at` meets its contract.
+use Rattle.std.proofs.Common.{rules}
+use Rattle.gsd_format.proofs.Bytes.{le_four}
+use Rattle.gsd_bytes.proofs.u32_at.Goals as goal
+
+pub returns : goal.returns
+returns c = record { answer = rw le_four (search rules); bound = rw le_four (search rules) }

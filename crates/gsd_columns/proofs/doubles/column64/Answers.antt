@@ -1,0 +1,29 @@
+-- The fours are among the n, and what is left is fewer than four.
+use native.Mathlib.Omega.{arith}
+use Rattle.gsd_format.proofs.Elements.{nan-double}
+use Rattle.gsd_columns.proofs.Columns.{fewer, as-column, patterned}
+use borrow.Author.Rules.{rules}
+use Rattle.gsd_columns.proofs.doubles.column64.Goals as goal
+
+pub fours64-requires : goal.fours64-requires
+fours64-requires c = record { inside = omega (arith, c.requires.some, c.requires.inside); numbers = fewer _ _ _ _ _ (omega (arith, c.requires.some)) c.requires.numbers }
+
+pub rest64-requires : goal.rest64-requires
+rest64-requires c =
+    let said = (
+  omega arith,
+  (
+    omega (arith, c.requires.some),
+    (
+      c.requires.inside,
+      (c.requires.numbers, c.fours64.ensures),
+    ),
+  ), in
+    record { some = said.0; within = said.1.0; inside = said.1.1.0; numbers = said.1.1.1.0; so_far = said.1.1.1.1 }
+
+)
+
+pub returns : goal.returns
+returns c =
+    let rest64 = c.rest64 in
+    record { extremes = rest64.ensures; numbers = patterned 10 nan-double _ _ 1 _ 0 (omega arith) (as-column _ _ _ _ c.requires.numbers) c.requires.some _ _ rest64.ensures }

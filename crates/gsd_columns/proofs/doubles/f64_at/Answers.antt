@@ -1,0 +1,15 @@
+-- A pattern that is no NaN's is read as its double.
+use mathlib.Core.Path.{◌∙◌, ap, subst⁻¹}
+use mathlib.Core.Bool.{Bool, not}
+use lib.Dec.{T}
+use lib.Ieee.{binary64, of_bits}
+use Rattle.gsd_format.specs.Elements.{nan_element}
+use borrow.Author.Rules.{rules}
+use Rattle.gsd_columns.proofs.doubles.f64_at.Goals as goal
+
+pub float_from_bits-result : goal.float_from_bits-result
+unfolding nan_element
+float_from_bits-result c = subst⁻¹ (λ (b : Bool). T (not b)) (ap (nan_element 10) c.u64_at.ensures ∙ c.requires.number) tt
+
+pub returns : goal.returns
+returns c = ap (of_bits binary64) c.u64_at.ensures

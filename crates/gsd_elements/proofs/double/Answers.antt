@@ -1,0 +1,16 @@
+-- A NaN's pattern reads as the one NaN, any other as its float.
+use lib.Ieee.{binary64, of_bits, div}
+use borrow.Author.Rules.{rules}
+use Rattle.gsd_format.specs.Elements.{nan_element}
+use Rattle.gsd_elements.proofs.Floats.{nan-of, no_nan}
+use Rattle.gsd_elements.proofs.double.Goals as goal
+
+pub returns-then-nan64 : goal.returns-then-nan64
+unfolding div of_bits nan_element
+returns-then-nan64 c =
+    let said = nan-of binary64 _ _ c.nan64.ensures c.if-nan64.true in
+    record { answer = said }
+
+pub float_from_bits-result : goal.float_from_bits-result
+unfolding nan_element
+float_from_bits-result c = no_nan binary64 _ _ c.nan64.ensures c.if-nan64.false

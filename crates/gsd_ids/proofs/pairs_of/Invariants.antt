@@ -1,0 +1,13 @@
+-- `gsd_ids::pairs_of` meets its contract. Invariant: the first i pairs are taken.
+use Prim.Native.Nat.{◌-◌, ◌≤◌}
+use native.Mathlib.Omega.{arith}
+use borrow.Author.Rules.{rules}
+use Rattle.gsd_ids.specs.RowIds.{PairsTaken}
+use Rattle.gsd_ids.proofs.RowIds.{taken_none, taken_more, taken-to}
+use Rattle.gsd_ids.proofs.pairs_of.Given as goal
+
+abbrev pub invariant-loop-i : goal.invariant-loop-i
+invariant-loop-i l = (l.i ≤ l.count) × PairsTaken l.plan l.i l.pairs
+
+abbrev pub decreases-loop-i : goal.decreases-loop-i
+decreases-loop-i l = l.count - l.i

@@ -1,0 +1,45 @@
+-- `gsd_listing::put_listing` meets its contract: the survey says what the definition asks of the image.
+use mathlib.Core.Path.{sym, ◌∙◌, ap}
+use mathlib.Core.List.{[], ◌∷◌, ◌++◌}
+use native.Mathlib.Omega.{arith}
+use borrow.Author.Rules.{rules}
+use Rattle.gsd_format.specs.Ascii.{ascii}
+use Rattle.gsd_format.specs.Entries.{entries_of}
+use Rattle.gsd_format.specs.Listing.{fields, entry_lines, counts_line, listing}
+use Rattle.gsd_format.proofs.Listing.{listing-open, listing-refused}
+use Rattle.gsd_open.proofs.Surveys.{passed_on, opens, index-there, many-names, entries-within}
+use Rattle.gsd_listing.proofs.put_listing.Goals as goal
+
+pub returns-then-s-ne0 : goal.returns-then-s-ne0
+returns-then-s-ne0 c =
+    let img = c.args.image.now in
+    let number = passed_on img (λ n. ascii "refused" ++ fields (n ∷ [])) (listing img) (listing-refused img) _
+    c.survey_of-s.ensures.number c.if-s-ne0.true in
+    let line = c.put_line in
+    record { text = line.ensures.0 ∙ c.refused_line.ensures.text ∙ number; bound = omega (arith, line.ensures.1) }
+
+pub put_entries-requires : goal.put_entries-requires
+put_entries-requires c =
+    let img = c.args.image.now in
+    let told = c.survey_of-s.ensures in
+    let good = c.if-s-ne0.false in
+    let verdict = opens img _ _ told good in
+    let first = c.put_line-at in
+    record { opens = verdict; index = index-there img _ _ told good; counted = told.entries good; count_in_bounds = omega (arith, told.entries good, entries-within img verdict, first.auto.0, first.ensures.1) }
+
+pub returns : goal.returns
+returns c =
+    let img = c.args.image.now in
+    let told = c.survey_of-s.ensures in
+    let good = c.if-s-ne0.false in
+    let verdict = opens img _ _ told good in
+    let first = c.put_line-at in
+    let p = c.put_entries in
+    record {
+      text = p.ensures.0
+          ∙ ap (λ s. s ++ entry_lines (entries_of img))
+          (first.ensures.0 ∙ c.counts_line.ensures.text
+          ∙ (λ i. counts_line (told.frames good i) (many-names img _ _ told good i) (told.entries good i)))
+          ∙ sym (listing-open img verdict);
+      bound = omega (arith, told.entries good, entries-within img verdict, p.ensures.1, first.ensures.1);
+    }

@@ -1,0 +1,23 @@
+-- `gsd_names::list::segment_list` meets its contract. Invariant: the names found so far are kept, and the segments left begin at `segment`.
+use Prim.Native.Nat.{◌-◌}
+use mathlib.Core.Logic.{⊎_elim}
+use borrow.Author.Rules.{rules}
+use Rattle.gsd_names.proofs.NamePasses.{Segmented, segmented-none, segmented-more, segmented-all, segmented-end}
+use Rattle.gsd_names.proofs.list.segment_list.Goals as goal
+
+pub loop-count-init : goal.loop-count-init
+loop-count-init c = rw c.keep.ensures (segmented-none _ _ c.requires.segmented c.args.starts.now c.requires.places)
+
+pub loop-count-preserved : goal.loop-count-preserved
+loop-count-preserved c =
+    let pre = (c.requires.segmented, c.requires.inside, c.requires.short, c.requires.places) in
+    rw c.keep-in-loop-count.ensures (segmented-more _ _ pre.0 _ _ _ c.loop-count.invariant pre.1.0 c.loop-count-test.true
+    _ c.past_name-next.ensures c.if-next-segment.false)
+
+pub returns : goal.returns
+returns c =
+    let pre = (c.requires.segmented, c.requires.inside, c.requires.short, c.requires.places) in
+    ⊎_elim
+    (λ w. segmented-all _ _ pre.0 _ _ _ c.loop-count.invariant _ c.goes_on.ensures w.left)
+    (λ w. segmented-end _ _ pre.0 _ _ _ c.loop-count.invariant _ c.goes_on.ensures w.0.taken _ w.1.ensures w.2.taken)
+    c.loop-count-test.branch

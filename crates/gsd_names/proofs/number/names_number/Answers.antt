@@ -1,0 +1,36 @@
+-- `gsd_names::number::names_number` meets its contract: each number by what is found.
+use mathlib.Core.Path.{◌≡◌, sym, ◌∙◌}
+use mathlib.Core.Bool.{Bool, true, false}
+use borrow.Author.Rules.{rules}
+use Rattle.gsd_format.specs.Refusals.{◌⇒◌}
+use Rattle.gsd_format.specs.Names.{block_names}
+use Rattle.gsd_format.specs.Opening.{names_test}
+use Rattle.gsd_names.proofs.NameLists.{number-open, number-many, number-twins}
+use Rattle.gsd_names.proofs.number.names_number.Goals as goal
+
+pub returns-then-names : goal.returns-then-names
+returns-then-names c = sym (number-open _ _ _ _ c.requires c.if-names.true)
+
+pub returns-then-names-gt-MOST_NAMES : goal.returns-then-names-gt-MOST_NAMES
+returns-then-names-gt-MOST_NAMES c = sym (number-many _ _ _ _ c.requires c.if-names.false c.if-names-gt-MOST_NAMES.true)
+
+pub any_twins-requires : goal.any_twins-requires
+any_twins-requires c =
+    let spans = c.requires.spans c.if-names.false c.if-names-gt-MOST_NAMES.false in
+    record { spans = rw c.is_10.ensures (spans, c.if-names-gt-MOST_NAMES.false); few = rw c.is_10.ensures (spans, c.if-names-gt-MOST_NAMES.false) }
+
+-- with no more than 1,024 names, all closed, the twins decide
+twins-tell : (c : goal.After-any_twins) (b : Bool) → c.any_twins.result ≡ b →
+    let x = c.args in
+    (b ⇒ 11) ≡ names_test x.image.now x.l (block_names x.image.now x.l)
+twins-tell c b e =
+    sym (number-twins _ _ _ _ c.requires b c.if-names.false c.if-names-gt-MOST_NAMES.false
+    (sym (rw c.is_10.ensures at c.any_twins.ensures) ∙ e))
+
+pub returns-then-any_twins : goal.returns-then-any_twins
+unfolding ◌⇒◌
+returns-then-any_twins c = twins-tell c true c.if-any_twins.true
+
+pub returns : goal.returns
+unfolding ◌⇒◌
+returns c = twins-tell c false c.if-any_twins.false

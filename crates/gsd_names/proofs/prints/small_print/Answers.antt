@@ -1,0 +1,12 @@
+-- `gsd_names::prints::small_print` meets its contract.
+use Rattle.gsd_names.specs.NamePrints.{small_print}
+use Rattle.gsd_names.proofs.NamePrints.{small-none}
+use borrow.Author.Rules.{rules}
+use Rattle.gsd_names.proofs.prints.small_print.Goals as goal
+
+pub returns-then-n-eq0 : goal.returns-then-n-eq0
+returns-then-n-eq0 c = small-none _ c.if-n-eq0.true
+
+pub returns : goal.returns
+unfolding small_print
+returns c = rw c.wide.ensures.answer

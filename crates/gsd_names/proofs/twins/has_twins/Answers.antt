@@ -1,0 +1,60 @@
+-- `gsd_names::twins::has_twins` meets its contract. Invariants: no name before the i-th comes again; the i-th is none of those
+-- behind it up to the j-th.
+use Prim.Native.Nat.{◌+◌, ◌-◌, ◌≤◌}
+use mathlib.Core.Path.{◌≡◌, refl, sym, ◌∙◌, ap}
+use mathlib.Core.Bool.{false}
+use mathlib.Core.Logic.{⊎_elim}
+use borrow.Author.Rules.{rules}
+use Rattle.gsd_format.specs.Names.{bytes_of}
+use Rattle.gsd_format.specs.Opening.{twins}
+use Rattle.gsd_names.specs.NameLists.{part_at}
+use Rattle.gsd_names.proofs.NameLists.{names, names-all, Passed, passed-more, passed_here, passed-all, twins-here, twins-behind, twins-none}
+use Rattle.gsd_names.proofs.NamePrints.{paired, twins-silent}
+use Rattle.gsd_names.proofs.twins.has_twins.Goals as goal
+
+pub pairs-init : goal.pairs-init
+pairs-init c = (search rules, (search rules, refl))
+
+pub echoed-requires : goal.echoed-requires
+echoed-requires c = record { some = c.pairs-test.true; room = c.requires.telling.room }
+
+pub loop-j-init : goal.loop-j-init
+loop-j-init c = (search rules, (search rules, refl))
+
+pub are_twins-requires : goal.are_twins-requires
+are_twins-requires c =
+    let pre = (c.requires.spans, c.requires.telling) in
+    paired _ _ _ _ _ _ _ pre.0 pre.1 c.pairs-test.true c.loop-j-test.true
+
+pub loop-j-preserved : goal.loop-j-preserved
+loop-j-preserved c =
+    let apart = sym c.are_twins.ensures ∙ c.if-are_twins.false in
+    let passed = passed-more _ _ _ _ _ _ _ _ c.loop-j-test.true c.loop-j.invariant.1.1 refl apart in
+    (search rules, (search rules, passed))
+
+pub pairs-preserved : goal.pairs-preserved
+pairs-preserved c =
+    let here = c.pairs-test.true in
+    let before = c.pairs.invariant in (
+      search rules,
+      ⊎_elim
+          (λ w.
+          let all = passed-all _ _ _ _ _ _ _ w.2.left w.1.inv.1.1 in
+          (w.3 ∙ w.1.inv.1.0, before.1.1 ∙ twins-behind _ _ _ _ _ _ _ here refl all w.2.left))
+          (λ w.
+          let silent = sym c.echoed.ensures ∙ w.0.left in
+          (w.1 ∙ before.1.0, before.1.1 ∙ twins-silent _ _ _ _ _ _ c.requires.telling here silent))
+          c.if-echoed.branch,
+    )
+
+pub returns-after-pairs : goal.returns-after-pairs
+returns-after-pairs c =
+    let inv = c.pairs.invariant.1 in
+    inv.0 ∙ sym (ap twins (sym (names-all _ _ _ _)) ∙ inv.1 ∙ twins-none _ _ _ _ _ c.pairs-test.false)
+
+pub returns-then-are_twins : goal.returns-then-are_twins
+returns-then-are_twins c =
+    let same = sym c.are_twins.ensures ∙ c.if-are_twins.true in
+    let again = passed_here _ _ _ _ _ _ _ _ c.loop-j-test.true c.loop-j.invariant.1.1 refl same in
+    sym (ap twins (sym (names-all _ _ _ _)) ∙ c.pairs.invariant.1.1
+    ∙ twins-here _ _ _ _ _ _ _ c.pairs-test.true refl again c.loop-j-test.true)

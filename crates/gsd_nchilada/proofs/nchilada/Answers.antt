@@ -1,0 +1,29 @@
+-- The chunk of an entry that is found lies in the image; a refusal is passed on.
+use mathlib.Core.Path.{sym, ◌∙◌}
+use native.Mathlib.Omega.{arith}
+use Rattle.gsd_read.proofs.Lookups.{found-sound, found-held}
+use Rattle.gsd_nchilada.proofs.Requests.{of-found, of-refused}
+use borrow.Author.Rules.{rules}
+use Rattle.gsd_nchilada.proofs.nchilada.Goals as goal
+
+pub write_file-requires : goal.write_file-requires
+write_file-requires c =
+    let said = (
+  found-held _ _ _ _ (sym c.lookup.ensures.value ∙ c.in-Found.is),
+  omega (arith, (found-sound _ _ _ _ (sym c.lookup.ensures.value ∙ c.in-Found.is)).early), in
+    record { held = said.0; frame = said.1 }
+
+)
+
+pub returns-in-Found : goal.returns-in-Found
+returns-in-Found c =
+    let lookup = c.lookup in
+    let e = c.e-1 in
+    let write-file = c.write_file in
+    let said = of-found _ _ _ _ _ _ _ _ (sym lookup.ensures.0 ∙ e.given.1) write-file.ensures.0 write-file.ensures.1 in
+    record { number = said.0; file = said.1 }
+
+pub returns-in-Refused : goal.returns-in-Refused
+returns-in-Refused c =
+    let said = of-refused _ _ _ _ _ _ (sym c.lookup.ensures.value ∙ c.in-Refused.is) in
+    record { number = said.0; file = said.1 }

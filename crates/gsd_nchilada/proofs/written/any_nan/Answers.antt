@@ -1,0 +1,30 @@
+-- The chunk lies in the slice; its type says how its elements are tested.
+use native.Mathlib.Omega.{arith}
+use Rattle.gsd_format.specs.Types.{size_of}
+use Rattle.gsd_elements.proofs.Elements.{few-elements}
+use Rattle.gsd_body.proofs.Bodies.{second-of}
+use Rattle.gsd_nchilada.proofs.Requests.{of_size, nan-of-type}
+use borrow.Author.Rules.{rules}
+use Rattle.gsd_nchilada.proofs.written.any_nan.Goals as goal
+
+pub overflow_mul-count : goal.overflow_mul-count
+overflow_mul-count c = omega (arith, few-elements _ _ c.requires.held)
+
+pub any_nan32-requires : goal.any_nan32-requires
+unfolding size_of
+any_nan32-requires c = omega (arith, of_size _ _ c.requires.held 9 c.if-e-eq-FLOAT.true)
+
+pub returns-then-e-eq-FLOAT : goal.returns-then-e-eq-FLOAT
+returns-then-e-eq-FLOAT c = nan-of-type _ 9 _ _ _ _ c.if-e-eq-FLOAT.true c.any_nan32.ensures
+
+pub any_nan64-requires : goal.any_nan64-requires
+unfolding size_of
+any_nan64-requires c =
+    let if1 = c.if-e-eq-FLOAT in
+    omega (arith, of_size _ _ c.requires.held 10 (second-of _ 9 10 c.requires.typed if1.false))
+
+pub returns : goal.returns
+returns c =
+    let if1 = c.if-e-eq-FLOAT in
+    let any-nan64 = c.any_nan64 in
+    nan-of-type _ 10 _ _ _ _ (second-of _ 9 10 c.requires.typed if1.false) any-nan64.ensures

@@ -1,0 +1,49 @@
+-- `gsd_plan::plan_names` meets its contract.
+use mathlib.Core.Path.{refl, ◌∙◌}
+use native.Mathlib.Omega.{arith}
+use borrow.Author.Rules.{rules}
+use Rattle.gsd_stores.proofs.Sheet.{accepted}
+use Rattle.gsd_sheet.proofs.Rows.{located-kept}
+use Rattle.gsd_plan.proofs.Image.{sees, listed-many, listed-are, listed-spans}
+use Rattle.gsd_plan.proofs.Tests.{fresh-small, many-names, few-names, asked, plans-refused, plans-same}
+use Rattle.gsd_open.proofs.Surveys.{few-names as survey-few}
+use Rattle.gsd_plan.proofs.plan_names.Goals as goal
+
+pub row_count-requires : goal.row_count-requires
+row_count-requires c = (accepted _ _ c.requires.accepted).long
+
+pub find_ids-new-requires : goal.find_ids-new-requires
+find_ids-new-requires c =
+    let (told, (good, (recent, (sheet, (long, located))))) = (c.requires.surveyed, c.requires.opens, c.requires.recent, c.requires.accepted, c.requires.long, c.requires.located) in
+    record {
+      spans = listed-spans _ _ _ told good recent;
+      few = survey-few _ _ _ told good;
+      long = long;
+      located = located;
+      counted = c.row_count.ensures;
+      distinct = (accepted _ _ sheet).distinct;
+    }
+
+pub overflow_add-listed : goal.overflow_add-listed
+overflow_add-listed c =
+    let (told, (good, (recent, (sheet, (long, located))))) = (c.requires.surveyed, c.requires.opens, c.requires.recent, c.requires.accepted, c.requires.long, c.requires.located) in
+    let found = (c.find_ids-new.ensures.found, c.find_ids-new.ensures.kept) in
+    omega (arith, survey-few _ _ _ told good, fresh-small _ _ _ _ (located-kept located found.1) found.0)
+
+pub returns-then-listed-new-gt-MOST_NAMES : goal.returns-then-listed-new-gt-MOST_NAMES
+returns-then-listed-new-gt-MOST_NAMES c =
+    let (told, (good, (recent, (sheet, (long, located))))) = (c.requires.surveyed, c.requires.opens, c.requires.recent, c.requires.accepted, c.requires.long, c.requires.located) in
+    plans-refused _ _ _ 27 _ _ (many-names _ _ _ _ _ _ (listed-many _ _ _ told good) (listed-are _ _ _ told good recent) c.find_ids-new.ensures.found c.if-listed-new-gt-MOST_NAMES.true) refl
+
+pub plan_rows-requires : goal.plan_rows-requires
+plan_rows-requires c =
+    let (told, (good, (recent, (sheet, (long, located))))) = (c.requires.surveyed, c.requires.opens, c.requires.recent, c.requires.accepted, c.requires.long, c.requires.located) in
+    let found = (c.find_ids-new.ensures.found, c.find_ids-new.ensures.kept) in
+    let see = sees _ _ _ told good recent in
+    record { sees = see; asked = asked _ _ _ _ _ _ (listed-many _ _ _ told good) (listed-are _ _ _ told good recent) found.0 see sheet (found.1.long ∙ long) (located-kept located found.1) }
+
+pub returns : goal.returns
+returns c =
+    let (told, (good, (recent, (sheet, (long, located))))) = (c.requires.surveyed, c.requires.opens, c.requires.recent, c.requires.accepted, c.requires.long, c.requires.located) in
+    plans-same _ _ _ _ _ _ (few-names _ _ _ _ _ _ (listed-many _ _ _ told good) (listed-are _ _ _ told good recent) c.find_ids-new.ensures.found c.if-listed-new-gt-MOST_NAMES.false)
+    c.plan_rows.ensures

@@ -1,0 +1,40 @@
+-- Table, name and data in a row are all of the slice.
+use mathlib.Core.Path.{◌∙◌, ap}
+use Rattle.gsd_format.specs.Bytes.{stored}
+use native.Mathlib.Omega.{arith}
+use Rattle.gsd_rawarray.proofs.Requests.{request-passed}
+use Rattle.gsd_rawarray.proofs.Sheets.{data-inside, data-part, sheet-written}
+use borrow.Author.Rules.{rules}
+use Rattle.gsd_rawarray.proofs.sheet.put_sheet.Goals as goal
+
+pub data_start-start-requires : goal.data_start-start-requires
+data_start-start-requires c = (request-passed _ _ _ c.requires).file.dims
+
+pub data_length-size-requires : goal.data_length-size-requires
+data_length-size-requires c = (request-passed _ _ _ c.requires).file.dims
+
+pub put_table-requires : goal.put_table-requires
+put_table-requires c =
+    let passed = request-passed _ _ _ c.requires in
+    record { dimensions = passed.file.dims; short = omega (arith, passed.short); inside = omega (arith, passed.exact) }
+
+pub put_text-requires : goal.put_text-requires
+put_text-requires c = omega (arith, (request-passed _ _ _ c.requires).exact)
+
+pub copy_part-requires : goal.copy_part-requires
+copy_part-requires c =
+    let data-start = c.data_start-start in
+    let data-length = c.data_length-size in
+    let passed = request-passed _ _ _ c.requires in
+    record { there = omega (arith, data-inside _ passed.file.whole, data-start.ensures, data-length.ensures); inside = omega (arith, passed.exact, data-length.ensures) }
+
+pub returns : goal.returns
+returns c =
+    let data-start = c.data_start-start in
+    let data-length = c.data_length-size in
+    let put-table = c.put_table in
+    let put-text = c.put_text in
+    let copy-part = c.copy_part in
+    let passed = request-passed _ _ _ c.requires in
+    sheet-written _ _ _ _ _ _ passed.file.whole passed.exact put-table.ensures put-text.ensures
+    (copy-part.ensures ∙ ap (stored _ _) (data-part _ _ _ data-start.ensures data-length.ensures))

@@ -1,0 +1,10 @@
+-- The chunk lies in the image.
+use borrow.Author.Rules.{rules}
+use Rattle.gsd_read.proofs.Lookups.{chunk_inside}
+use Rattle.gsd_read.proofs.found.chunk.Goals as goal
+
+pub part_at-requires : goal.part_at-requires
+part_at-requires c = rw c.chunk_place-place.ensures.value (chunk_inside _ _ _)
+
+pub returns : goal.returns
+returns c = record { result_value = rw (← c.chunk_place-place.ensures.value) (c.part_at.ensures.result_value, c.part_at.ensures.itself); itself = rw (← c.chunk_place-place.ensures.value) (c.part_at.ensures.result_value, c.part_at.ensures.itself) }

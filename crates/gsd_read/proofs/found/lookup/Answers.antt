@@ -1,0 +1,9 @@
+-- The search's answer, by its number and its values.
+use borrow.Author.Rules.{rules}
+use Rattle.gsd_format.proofs.Calls.{lookup-says}
+use Rattle.gsd_read.proofs.found.lookup.Goals as goal
+
+pub returns : goal.returns
+returns c =
+    let said = lookup-says _ _ _ _ c.search.ensures.answer in
+    record { value = said.0; number = said.1.0; values = said.1.1 }

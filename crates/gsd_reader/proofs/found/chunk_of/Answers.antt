@@ -1,0 +1,18 @@
+-- A chunk that lies in the image is no longer than it, so its size is exact.
+use mathlib.Core.Path.{sym, ◌∙◌, refl}
+use native.Mathlib.Omega.{arith}
+use borrow.Author.Tests.{not-true, not-false}
+use borrow.Author.Rules.{rules}
+use Rattle.gsd_format.specs.declared.Place.{Place}
+use Rattle.gsd_format.proofs.Readers.{chunk-held, chunk-33}
+use Rattle.gsd_reader.proofs.Fitting.{holding}
+use Rattle.gsd_reader.proofs.found.chunk_of.Goals as goal
+
+pub returns-then-not-holds : goal.returns-then-not-holds
+returns-then-not-holds c = sym (chunk-33 _ _ _ _ refl (sym c.holds.ensures ∙ not-true _ c.if-not-holds.true))
+
+pub returns : goal.returns
+returns c =
+    let held = sym c.holds.ensures ∙ not-false _ c.if-not-holds.false in
+    let within = holding _ _ _ held c.requires in
+    (λ i. Place.At (record { c = c.args.e.location; size = c.chunk_bytes.ensures.exact (omega (arith, within.within, within.short)) i })) ∙ sym (chunk-held _ _ _ _ refl held)

@@ -1,0 +1,16 @@
+-- `gsd_sheet::twin_named` meets its contract.
+use Prim.Native.Nat.{ℕ, ◌-◌, ◌≤◌, ◌<◌}
+use mathlib.Core.Path.{◌≡◌, sym, ◌∙◌}
+use mathlib.Core.Bool.{false}
+use native.Mathlib.Omega.{arith}
+use borrow.Author.Count.{below_more}
+use borrow.Author.Rules.{rules}
+use Rattle.gsd_sheet.specs.Rows.{sheet_names, repeats}
+use Rattle.gsd_sheet.proofs.Rows.{names-count, twins-yes, twins-no}
+use Rattle.gsd_sheet.proofs.twin_named.Given as goal
+
+abbrev pub invariant-loop-i : goal.invariant-loop-i
+invariant-loop-i l = (l.i ≤ l.count) × ((k : ℕ) → k < l.i → repeats (sheet_names l.sheet) k ≡ false)
+
+abbrev pub decreases-loop-i : goal.decreases-loop-i
+decreases-loop-i l = l.count - l.i

@@ -1,0 +1,30 @@
+-- `gsd_states::begin` meets its contract.
+use borrow.Author.Rules.{rules}
+use mathlib.Core.Path.{sym, ◌∙◌}
+use Rattle.gsd_states.specs.States.{plan_in}
+use Rattle.gsd_states.proofs.Begins.{refused-begins, began-front, began-count, accepted-begins}
+use Rattle.gsd_states.proofs.begin.Goals as goal
+
+pub returns-then-number-ne0 : goal.returns-then-number-ne0
+returns-then-number-ne0 c = refused-begins _ _ _ _ c.start-number.ensures.number c.if-number-ne0.true
+
+pub whole-requires : goal.whole-requires
+unfolding plan_in
+whole-requires c =
+    let zero = c.if-number-ne0.false in
+    let said = (c.start-number.ensures.number, c.start-number.ensures.state) in
+    record { sound = began-front (sym said.0 ∙ zero) (said.1 zero); count = began-count (sym said.0 ∙ zero) (said.1 zero) }
+
+pub copied-requires : goal.copied-requires
+unfolding plan_in
+copied-requires c =
+    let zero = c.if-number-ne0.false in
+    let said = (c.start-number.ensures.number, c.start-number.ensures.state) in
+    began-front (sym said.0 ∙ zero) (said.1 zero)
+
+pub returns : goal.returns
+unfolding plan_in
+returns c =
+    let zero = c.if-number-ne0.false in
+    let said = (c.start-number.ensures.number, c.start-number.ensures.state) in
+    accepted-begins (sym said.0 ∙ zero) (said.1 zero) _ _ c.whole.ensures c.copied.ensures

@@ -1,0 +1,29 @@
+-- `gsd_text::put::labelled` meets its contract.
+use Prim.Native.Nat.{◌+◌}
+use mathlib.Core.Path.{refl, ◌∙◌, ap}
+use mathlib.Core.List.{◌++◌}
+use native.Mathlib.Omega.{arith}
+use lib.ListN.{length}
+use borrow.Author.Rules.{rules}
+use Rattle.gsd_format.specs.Listing.{decimal}
+use Rattle.gsd_format.proofs.Bytes.{stored-front}
+use Rattle.gsd_format.proofs.Listing.{decimal-long}
+use Rattle.gsd_text.proofs.put.labelled.Goals as goal
+
+pub decimal-requires : goal.decimal-requires
+decimal-requires c =
+    let n = c.args.n in
+    omega (arith, c.put_text.auto.0, decimal-long n (omega arith))
+
+pub returns : goal.returns
+returns c =
+    let x = c.args in
+    let p = c.put_text in
+    let d = c.decimal in
+    let at = x.at + length x.label.now in
+    let digits = decimal-long x.n (omega arith) in
+    record {
+      text = stored-front p.new.0 at (decimal x.n) d.new.0 d.result d.ensures.0 d.ensures.1 (omega (arith, p.auto.0))
+          ∙ ap (λ s. s ++ decimal x.n) (stored-front x.out.now x.at x.label.now p.new.0 at p.ensures refl (omega arith));
+      bound = omega (arith, d.ensures.1);
+    }

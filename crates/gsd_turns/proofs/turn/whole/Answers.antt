@@ -1,0 +1,31 @@
+-- `gsd_turns::turn::whole` meets its contract: the words of the extents are summed extent by extent.
+use borrow.Author.Rules.{rules}
+use Prim.Native.Nat.{◌+◌, ◌-◌, ◌≤◌}
+use mathlib.Core.Path.{◌≡◌, sym, ◌∙◌, ap}
+use native.Mathlib.Omega.{arith}
+use Rattle.gsd_steps.specs.Steps.{front_count}
+use Rattle.gsd_turns.proofs.Count.{counted, counted_none, counted-more, counted-within, counted-all}
+use Rattle.gsd_turns.proofs.turn.whole.Goals as goal
+
+pub loop-r-init : goal.loop-r-init
+loop-r-init c = (search rules, sym (counted_none c.args.plan.now))
+
+pub front_extent-x-requires : goal.front_extent-x-requires
+front_extent-x-requires c = record { sound = c.requires.sound; extent = omega (arith, c.loop-r-test.true) }
+
+pub overflow_add-sum : goal.overflow_add-sum
+overflow_add-sum c =
+    let p = c.args.plan.now in
+    let more = counted-more p c.loop-r.r c.front_extent-x.result c.front_extent-x.ensures (omega (arith, c.loop-r-test.true)) in
+    omega (arith, c.loop-r.invariant.1, more, counted-within p (c.loop-r.r + 1), c.requires.count)
+
+pub loop-r-preserved : goal.loop-r-preserved
+loop-r-preserved c =
+    let more = counted-more c.args.plan.now c.loop-r.r c.front_extent-x.result c.front_extent-x.ensures (omega (arith, c.loop-r-test.true)) in
+    (search rules, omega (arith, c.loop-r.invariant.1, more))
+
+pub returns : goal.returns
+returns c =
+    let p = c.args.plan.now in
+    let done : c.loop-r.r ≡ front_count p = omega (arith, c.loop-r-test.false, c.loop-r.invariant.0) in
+    c.loop-r.invariant.1 ∙ ap (counted p) done ∙ counted-all p

@@ -1,0 +1,16 @@
+-- The pairs are stored, and then the odd last number.
+use native.Mathlib.Omega.{arith}
+use Rattle.gsd_xdr.proofs.Xdr.{store-next, store-all, number_is}
+use borrow.Author.Rules.{rules}
+use Rattle.gsd_xdr.proofs.put_all64.Goals as goal
+
+pub returns-then-n-eq0 : goal.returns-then-n-eq0
+returns-then-n-eq0 c = store-all 8 _ _ _ _ _ _ (omega arith) c.put_pairs64.ensures
+
+pub returns : goal.returns
+returns c =
+    let put-pairs64 = c.put_pairs64 in
+    let u64-at = c.u64_at in
+    let put-be64 = c.put_be64 in
+    store-all 8 _ _ _ _ _ _ (omega arith)
+    (store-next 8 _ _ _ _ _ _ _ _ put-pairs64.ensures (number_is 8 _ _ _ _ _ u64-at.ensures (omega arith)) (omega arith) put-be64.ensures)

@@ -1,0 +1,33 @@
+-- After i rounds the first i pairs are stored.
+use Prim.Native.Nat.{◌+◌, ◌*◌, ◌-◌, ◌≤◌}
+use mathlib.Core.Path.{◌≡◌, refl}
+use native.Mathlib.Omega.{arith}
+use lib.ListN.{length}
+use Rattle.gsd_format.specs.Bytes.{stored}
+use Rattle.gsd_xdr.specs.Xdr.{be_row, numbers}
+use Rattle.gsd_xdr.proofs.Xdr.{store-next, store-all, number_is}
+use borrow.Author.Rules.{rules}
+use Rattle.gsd_xdr.proofs.put_pairs64.Goals as goal
+
+pub loop-i-init : goal.loop-i-init
+unfolding stored be_row
+loop-i-init c = (search rules, refl, refl)
+
+pub loop-i-preserved : goal.loop-i-preserved
+loop-i-preserved c =
+    let loop = c.loop-i in
+    let u64-at = c.u64_at in
+    let put-be64 = c.put_be64 in
+    let u64-at2 = c.u64_at-in-loop-i in
+    let put-be642 = c.put_be64-in-loop-i in
+    let i = loop.i * 2 in (
+      search rules,
+      search rules,
+      store-all 8 _ _ _ (i + 1 + 1) _ _ (omega arith)
+          (store-next 8 _ _ _ (i + 1) _ _ _ _
+          (store-next 8 _ _ _ i _ _ _ _ loop.invariant.2 (number_is 8 _ _ i _ _ u64-at.ensures (omega arith)) (omega arith) put-be64.ensures)
+          (number_is 8 _ _ (i + 1) _ _ u64-at2.ensures (omega arith)) (omega arith) put-be642.ensures),
+    )
+
+pub returns : goal.returns
+returns c = store-all 8 _ _ _ _ _ _ (omega arith) c.loop-i.invariant.2

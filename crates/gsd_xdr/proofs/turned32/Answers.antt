@@ -1,0 +1,14 @@
+-- The halves, each turned round and exchanged, are the whole turned round.
+use native.Mathlib.Omega.{arith}
+use Rattle.gsd_xdr.proofs.Xdr.{turn-halves}
+use borrow.Author.Rules.{rules}
+use Rattle.gsd_xdr.proofs.turned32.Goals as goal
+
+pub returns : goal.returns
+returns c =
+    let said = (
+  turn-halves 2 _ _ _ c.turned16.ensures.bound c.turned16.ensures.answer c.turned16-2.ensures.answer,
+  omega (arith, c.turned16.ensures.bound, c.turned16-2.ensures.bound), in
+    record { answer = said.0; bound = said.1 }
+
+)
