@@ -5,6 +5,4 @@ use mathlib.Core.List.{[], ◌∷◌}
 use Rattle.dialmoth.proofs.dialmoth_begin.Goals as goal
 
 pub returns : goal.returns
-returns c =
-    let said = c.begin-begun.ensures in
-    record { number = said.number; state = record { refused = λ f. ap (λ s. s.words) (said.refused (λ z. f (sym said.number ∙ z))); accepted = λ z. said.accepted (said.number ∙ z) }; out = λ i. said.whole i ∷ said.copied i ∷ [] }
+returns c = record { number = c.begin-begun.ensures.number; state = record { refused = λ f. ap (λ s. s.words) (c.begin-begun.ensures.refused (λ z. f (sym c.begin-begun.ensures.number ∙ z))); accepted = λ z. c.begin-begun.ensures.accepted (c.begin-begun.ensures.number ∙ z) }; out = λ i. c.begin-begun.ensures.whole i ∷ c.begin-begun.ensures.copied i ∷ [] }

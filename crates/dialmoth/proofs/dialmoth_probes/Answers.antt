@@ -6,6 +6,4 @@ use Rattle.gsd_format.specs.Answers.{listed_number}
 use Rattle.dialmoth.proofs.dialmoth_probes.Goals as goal
 
 pub returns : goal.returns
-returns c =
-    let said = (c.search-s.ensures.answer, c.search-s.ensures.probes) in
-    record { number = c.listed_number.ensures ∙ ap listed_number said.0; out = ap (λ n. n ∷ []) said.1 }
+returns c = record { number = c.listed_number.ensures ∙ ap listed_number c.search-s.ensures.answer; out = ap (λ n. n ∷ []) c.search-s.ensures.probes }

@@ -5,6 +5,4 @@ use mathlib.Core.List.{[], ◌∷◌}
 use Rattle.dialmoth.proofs.dialmoth_turn.Goals as goal
 
 pub returns : goal.returns
-returns c =
-    let said = (c.turn-turned.ensures.answer, c.turn-turned.ensures.image) in
-    record { number = ap (λ t. t.number) said.0; image = said.1; state = ap (λ t. t.state.words) said.0; out = ap (λ t. t.made ∷ []) said.0 }
+returns c = record { number = ap (λ t. t.number) c.turn-turned.ensures.answer; image = c.turn-turned.ensures.image; state = ap (λ t. t.state.words) c.turn-turned.ensures.answer; out = ap (λ t. t.made ∷ []) c.turn-turned.ensures.answer }

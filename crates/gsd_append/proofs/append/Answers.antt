@@ -16,6 +16,5 @@ carry_on-done-requires c =
 
 pub returns : goal.returns
 returns c =
-    let went = (c.carry_on-done.ensures.made, c.carry_on-done.ensures.image, c.carry_on-done.ensures.words) in
-    let said = begins-append c.begin-counts.ensures c.if-counts-ne0.false c.args.limit _ _ went.0 went.1.0 in
+    let said = begins-append c.begin-counts.ensures c.if-counts-ne0.false c.args.limit _ _ c.carry_on-done.ensures.made c.carry_on-done.ensures.image in
     record { answer = said.0; image = said.1 }

@@ -16,8 +16,5 @@ two-parts s a after t at i near n l h p q =
 
 pub returns : goal.returns
 returns c =
-    let before-sixteen = c.before_sixteen-near in
-    let put-text = c.put_text in
-    let put-text2 = c.put_text-2 in
-    two-parts _ _ _ c.args.t.now _ c.args.«from» before-sixteen.result c.args.n before-sixteen.ensures c.requires.there
-    put-text.ensures put-text2.ensures
+    two-parts _ _ _ c.args.t.now _ c.args.«from» c.before_sixteen-near.result c.args.n c.before_sixteen-near.ensures c.requires.there
+    c.put_text.ensures c.put_text-2.ensures

@@ -22,9 +22,7 @@ returns-then-size-eq4 c =
     record { answer = said.0; bound = said.1 }
 
 pub u64_at-requires : goal.u64_at-requires
-u64_at-requires c =
-    let pre = (c.requires.sized, c.requires.inside) in
-    omega (arith, pre.1, size-eight _ _ c.size_of-size.ensures.answer pre.0 c.if-size-eq1.false c.if-size-eq2.false c.if-size-eq4.false)
+u64_at-requires c = omega (arith, c.requires.inside, size-eight _ _ c.size_of-size.ensures.answer c.requires.sized c.if-size-eq1.false c.if-size-eq2.false c.if-size-eq4.false)
 
 pub returns : goal.returns
 returns c =

@@ -18,8 +18,7 @@ returns-then-kind-le-UINT64 c =
 pub returns-then-kind-le-INT64 : goal.returns-then-kind-le-INT64
 returns-then-kind-le-INT64 c =
     let args = c.args in
-    let half = c.half_of in
-    let number = (c.signed_of-number.ensures.answer) ∙ sym (signed_is (size_of args.kind) args.bits half.result (sym half.ensures.1.1.1)) in
+    let number = (c.signed_of-number.ensures.answer) ∙ sym (signed_is (size_of args.kind) args.bits c.half_of.result (sym c.half_of.ensures.halves)) in
     let said = ap Element.Signed (to_z-of_z {w = w64} {z = c.signed_of-number.result} (search rules) ∙ number)
     ∙ sym (element-signed args.kind args.bits (omega arith) (omega arith)) in
     record { answer = said }

@@ -18,12 +18,10 @@ put_pairs-requires-clause-few c = omega (arith, c.requires.located.few, c.requir
 
 pub returns : goal.returns
 returns c =
-    let pre = c.requires in
-    let listed = (c.list_ids-new.ensures.listed, c.list_ids-new.ensures.kept) in
-    let long = listed.1.long ∙ pre.long in
-    let all = pre.counted ∙ sym (rows-count _) in
+    let long = c.list_ids-new.ensures.kept.long ∙ c.requires.long in
+    let all = c.requires.counted ∙ sym (rows-count _) in
     record {
-      found = ids-found long (omega (arith, pre.located.few, pre.counted)) c.pairs_of-pairs.ensures c.sort-ordered.ensures c.put_pairs.ensures
-          _ _ _ listed.0 all;
-      kept = kept_trans listed.1 c.put_pairs.ensures.kept;
+      found = ids-found long (omega (arith, c.requires.located.few, c.requires.counted)) c.pairs_of-pairs.ensures c.sort-ordered.ensures c.put_pairs.ensures
+          _ _ _ c.list_ids-new.ensures.listed all;
+      kept = kept_trans c.list_ids-new.ensures.kept c.put_pairs.ensures.kept;
     }

@@ -10,13 +10,11 @@ use Rattle.gsd_listing.proofs.print_into.Goals as goal
 pub returns-then-input-gt65536 : goal.returns-then-input-gt65536
 unfolding ascii
 returns-then-input-gt65536 c =
-    let said = (
-  stored-front _ 0 (ascii "too long\n") c.put_text.new.0 9 c.put_text.ensures refl (omega arith)
-      ∙ sym (printed-long _ c.if-input-gt65536.true),
-  omega arith, in
-    record { text = said.0; bound = said.1 }
-
-)
+    record {
+      text = stored-front _ 0 (ascii "too long\n") c.put_text.new.0 9 c.put_text.ensures refl (omega arith)
+          ∙ sym (printed-long _ c.if-input-gt65536.true);
+      bound = omega arith;
+    }
 
 pub returns : goal.returns
 returns c = record { text = c.put_listing.ensures.text ∙ sym (printed-short _ c.if-input-gt65536.false); bound = omega (arith, c.put_listing.ensures.bound, c.put_listing.auto.1.0) }

@@ -15,8 +15,7 @@ returns-then-s-ne0 c =
     let img = c.args.image.now in
     let number = passed_on img (λ n. ascii "refused" ++ fields (n ∷ [])) (listing img) (listing-refused img) _
     c.survey_of-s.ensures.number c.if-s-ne0.true in
-    let line = c.put_line in
-    record { text = line.ensures.0 ∙ c.refused_line.ensures.text ∙ number; bound = omega (arith, line.ensures.1) }
+    record { text = c.put_line.ensures.line ∙ c.refused_line.ensures.text ∙ number; bound = omega (arith, c.put_line.ensures.bound) }
 
 pub put_entries-requires : goal.put_entries-requires
 put_entries-requires c =
@@ -24,8 +23,7 @@ put_entries-requires c =
     let told = c.survey_of-s.ensures in
     let good = c.if-s-ne0.false in
     let verdict = opens img _ _ told good in
-    let first = c.put_line-at in
-    record { opens = verdict; index = index-there img _ _ told good; counted = told.entries good; count_in_bounds = omega (arith, told.entries good, entries-within img verdict, first.auto.0, first.ensures.1) }
+    record { opens = verdict; index = index-there img _ _ told good; counted = told.entries good; count_in_bounds = omega (arith, told.entries good, entries-within img verdict, c.put_line-at.auto.0, c.put_line-at.ensures.bound) }
 
 pub returns : goal.returns
 returns c =
@@ -33,13 +31,11 @@ returns c =
     let told = c.survey_of-s.ensures in
     let good = c.if-s-ne0.false in
     let verdict = opens img _ _ told good in
-    let first = c.put_line-at in
-    let p = c.put_entries in
     record {
-      text = p.ensures.0
+      text = c.put_entries.ensures.text
           ∙ ap (λ s. s ++ entry_lines (entries_of img))
-          (first.ensures.0 ∙ c.counts_line.ensures.text
+          (c.put_line-at.ensures.line ∙ c.counts_line.ensures.text
           ∙ (λ i. counts_line (told.frames good i) (many-names img _ _ told good i) (told.entries good i)))
           ∙ sym (listing-open img verdict);
-      bound = omega (arith, told.entries good, entries-within img verdict, p.ensures.1, first.ensures.1);
+      bound = omega (arith, told.entries good, entries-within img verdict, c.put_entries.ensures.bound, c.put_line-at.ensures.bound);
     }

@@ -7,20 +7,11 @@ use borrow.Author.Rules.{rules}
 use Rattle.gsd_nchilada.proofs.nchilada.Goals as goal
 
 pub write_file-requires : goal.write_file-requires
-write_file-requires c =
-    let said = (
-  found-held _ _ _ _ (sym c.lookup.ensures.value ∙ c.in-Found.is),
-  omega (arith, (found-sound _ _ _ _ (sym c.lookup.ensures.value ∙ c.in-Found.is)).early), in
-    record { held = said.0; frame = said.1 }
-
-)
+write_file-requires c = record { held = found-held _ _ _ _ (sym c.lookup.ensures.value ∙ c.in-Found.is); frame = omega (arith, (found-sound _ _ _ _ (sym c.lookup.ensures.value ∙ c.in-Found.is)).early) }
 
 pub returns-in-Found : goal.returns-in-Found
 returns-in-Found c =
-    let lookup = c.lookup in
-    let e = c.e-1 in
-    let write-file = c.write_file in
-    let said = of-found _ _ _ _ _ _ _ _ (sym lookup.ensures.0 ∙ e.given.1) write-file.ensures.0 write-file.ensures.1 in
+    let said = of-found _ _ _ _ _ _ _ _ (sym c.lookup.ensures.value ∙ c.in-Found.is) c.write_file.ensures.number c.write_file.ensures.file in
     record { number = said.0; file = said.1 }
 
 pub returns-in-Refused : goal.returns-in-Refused

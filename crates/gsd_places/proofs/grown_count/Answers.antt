@@ -16,9 +16,8 @@ loop-count-preserved c = (omega arith, omega arith, doubled-step c.args.need c.l
 
 pub returns : goal.returns
 returns c =
-    let greater = c.greater-count in
     record {
       answer = sym (doubled-done c.args.need c.args.need c.loop-count.count c.loop-count-test.false) ∙ c.loop-count.invariant.2
-          ∙ ap (λ k. doubled c.args.need c.args.need (2 * k)) greater.ensures;
-      bound = omega (arith, c.loop-count.invariant.1, greater.ensures);
+          ∙ ap (λ k. doubled c.args.need c.args.need (2 * k)) c.greater-count.ensures;
+      bound = omega (arith, c.loop-count.invariant.1, c.greater-count.ensures);
     }

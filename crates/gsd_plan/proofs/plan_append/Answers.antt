@@ -21,32 +21,27 @@ returns-then-number-ne0-2 c =
 pub plan_names-requires-clause-surveyed : goal.plan_names-requires-clause-surveyed
 plan_names-requires-clause-surveyed c =
     let recent = image-recent _ _ (sym c.image_number-number.ensures ∙ c.if-number-ne0.false) in
-    let rows = (c.sheet_rows-number.ensures.answer, c.sheet_rows-number.ensures.rows) in
     c.survey_of-survey.ensures
 
 pub plan_names-requires-clause-opens : goal.plan_names-requires-clause-opens
 plan_names-requires-clause-opens c =
     let recent = image-recent _ _ (sym c.image_number-number.ensures ∙ c.if-number-ne0.false) in
-    let rows = (c.sheet_rows-number.ensures.answer, c.sheet_rows-number.ensures.rows) in
     c.if-survey-ne0.false
 
 pub plan_names-requires-clause-recent : goal.plan_names-requires-clause-recent
 plan_names-requires-clause-recent c =
     let recent = image-recent _ _ (sym c.image_number-number.ensures ∙ c.if-number-ne0.false) in
-    let rows = (c.sheet_rows-number.ensures.answer, c.sheet_rows-number.ensures.rows) in
     recent
 
 pub plan_names-requires-clause-accepted : goal.plan_names-requires-clause-accepted
 plan_names-requires-clause-accepted c =
     let recent = image-recent _ _ (sym c.image_number-number.ensures ∙ c.if-number-ne0.false) in
-    let rows = (c.sheet_rows-number.ensures.answer, c.sheet_rows-number.ensures.rows) in
-    sym rows.0 ∙ c.if-number-ne0-2.false
+    sym c.sheet_rows-number.ensures.answer ∙ c.if-number-ne0-2.false
 
 pub plan_names-requires-clause-located : goal.plan_names-requires-clause-located
 plan_names-requires-clause-located c =
     let recent = image-recent _ _ (sym c.image_number-number.ensures ∙ c.if-number-ne0.false) in
-    let rows = (c.sheet_rows-number.ensures.answer, c.sheet_rows-number.ensures.rows) in
-    rows.1 c.if-number-ne0-2.false
+    c.sheet_rows-number.ensures.rows c.if-number-ne0-2.false
 
 pub returns : goal.returns
 returns c =

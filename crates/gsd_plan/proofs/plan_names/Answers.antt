@@ -27,8 +27,7 @@ find_ids-new-requires c =
 pub overflow_add-listed : goal.overflow_add-listed
 overflow_add-listed c =
     let (told, (good, (recent, (sheet, (long, located))))) = (c.requires.surveyed, c.requires.opens, c.requires.recent, c.requires.accepted, c.requires.long, c.requires.located) in
-    let found = (c.find_ids-new.ensures.found, c.find_ids-new.ensures.kept) in
-    omega (arith, survey-few _ _ _ told good, fresh-small _ _ _ _ (located-kept located found.1) found.0)
+    omega (arith, survey-few _ _ _ told good, fresh-small _ _ _ _ (located-kept located c.find_ids-new.ensures.kept) c.find_ids-new.ensures.found)
 
 pub returns-then-listed-new-gt-MOST_NAMES : goal.returns-then-listed-new-gt-MOST_NAMES
 returns-then-listed-new-gt-MOST_NAMES c =
@@ -38,9 +37,8 @@ returns-then-listed-new-gt-MOST_NAMES c =
 pub plan_rows-requires : goal.plan_rows-requires
 plan_rows-requires c =
     let (told, (good, (recent, (sheet, (long, located))))) = (c.requires.surveyed, c.requires.opens, c.requires.recent, c.requires.accepted, c.requires.long, c.requires.located) in
-    let found = (c.find_ids-new.ensures.found, c.find_ids-new.ensures.kept) in
     let see = sees _ _ _ told good recent in
-    record { sees = see; asked = asked _ _ _ _ _ _ (listed-many _ _ _ told good) (listed-are _ _ _ told good recent) found.0 see sheet (found.1.long ∙ long) (located-kept located found.1) }
+    record { sees = see; asked = asked _ _ _ _ _ _ (listed-many _ _ _ told good) (listed-are _ _ _ told good recent) c.find_ids-new.ensures.found see sheet (c.find_ids-new.ensures.kept.long ∙ long) (located-kept located c.find_ids-new.ensures.kept) }
 
 pub returns : goal.returns
 returns c =

@@ -18,9 +18,7 @@ end_of_use-requires c =
     record { index = said.0; names = said.1.0; chunks = said.1.1 }
 
 pub place_data-position-requires : goal.place_data-position-requires
-place_data-position-requires c =
-    let pre = (c.requires.sees, c.requires.asked) in
-    record { long = pre.1.long; laid = rows-laid pre.0 pre.1 _ c.row_count-rows.ensures (search rules); start = use-small _ _ pre.0 _ (use-found _ _ pre.0 _ c.end_of_use.ensures) }
+place_data-position-requires c = record { long = c.requires.asked.long; laid = rows-laid c.requires.sees c.requires.asked _ c.row_count-rows.ensures (search rules); start = use-small _ _ c.requires.sees _ (use-found _ _ c.requires.sees _ c.end_of_use.ensures) }
 
 pub returns-then-len-position : goal.returns-then-len-position
 returns-then-len-position c =

@@ -8,8 +8,4 @@ pub returns-then-number-ne0 : goal.returns-then-number-ne0
 returns-then-number-ne0 c = record { number = c.read_number-number.ensures; sheet = not-accepted _ _ _ _ c.read_number-number.ensures c.if-number-ne0.true }
 
 pub returns : goal.returns
-returns c =
-    let read_number = c.read_number-number in
-    let if1 = c.if-number-ne0 in
-    let put-sheet = c.put_sheet in
-    record { number = sym if1.false ∙ read_number.ensures; sheet = was-accepted _ _ _ _ (sym if1.false ∙ read_number.ensures) put-sheet.ensures }
+returns c = record { number = sym c.if-number-ne0.false ∙ c.read_number-number.ensures; sheet = was-accepted _ _ _ _ (sym c.if-number-ne0.false ∙ c.read_number-number.ensures) c.put_sheet.ensures }

@@ -14,9 +14,7 @@ pub loop-j-init : goal.loop-j-init
 loop-j-init c = (search rules, λ k l. absurd (omega arith))
 
 pub same_name-requires : goal.same_name-requires
-same_name-requires c =
-    let pre = (c.requires.long, c.requires.located, c.requires.row) in
-    record { long = pre.0; located = pre.1.0; first = omega arith; second = omega arith }
+same_name-requires c = record { long = c.requires.long; located = c.requires.located; first = omega arith; second = omega arith }
 
 pub returns-then-same_name : goal.returns-then-same_name
 returns-then-same_name c =

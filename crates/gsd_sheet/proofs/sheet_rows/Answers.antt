@@ -24,8 +24,7 @@ returns-then-number-ne0-2 c =
     let x = c.args in
     let s = x.sheet.now in
     let table : table_test x.version s ≡ 0 = sym c.table_number-number.ensures ∙ c.if-number-ne0.false in
-    let place = c.place_rows-number in
-    record { answer = place.ensures.0 ∙ sym (number-end _ s table (λ z. c.if-number-ne0-2.true (place.ensures.0 ∙ z))); rows = λ z. absurd (c.if-number-ne0-2.true z) }
+    record { answer = c.place_rows-number.ensures.answer ∙ sym (number-end _ s table (λ z. c.if-number-ne0-2.true (c.place_rows-number.ensures.answer ∙ z))); rows = λ z. absurd (c.if-number-ne0-2.true z) }
 
 pub rows_number-requires-clause-located : goal.rows_number-requires-clause-located
 rows_number-requires-clause-located c = c.place_rows-number.ensures.rows c.if-number-ne0-2.false
@@ -38,6 +37,5 @@ returns c =
     let x = c.args in
     let s = x.sheet.now in
     let table : table_test x.version s ≡ 0 = sym c.table_number-number.ensures ∙ c.if-number-ne0.false in
-    let place = c.place_rows-number in
-    let end : end_test s ≡ 0 = sym place.ensures.0 ∙ c.if-number-ne0-2.false in
-    record { answer = c.rows_number.ensures ∙ sym (number-rows _ s table end); rows = λ z. place.ensures.1 c.if-number-ne0-2.false }
+    let end : end_test s ≡ 0 = sym c.place_rows-number.ensures.answer ∙ c.if-number-ne0-2.false in
+    record { answer = c.rows_number.ensures ∙ sym (number-rows _ s table end); rows = λ z. c.place_rows-number.ensures.rows c.if-number-ne0-2.false }

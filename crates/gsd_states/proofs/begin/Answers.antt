@@ -12,19 +12,16 @@ pub whole-requires : goal.whole-requires
 unfolding plan_in
 whole-requires c =
     let zero = c.if-number-ne0.false in
-    let said = (c.start-number.ensures.number, c.start-number.ensures.state) in
-    record { sound = began-front (sym said.0 ∙ zero) (said.1 zero); count = began-count (sym said.0 ∙ zero) (said.1 zero) }
+    record { sound = began-front (sym c.start-number.ensures.number ∙ zero) (c.start-number.ensures.state zero); count = began-count (sym c.start-number.ensures.number ∙ zero) (c.start-number.ensures.state zero) }
 
 pub copied-requires : goal.copied-requires
 unfolding plan_in
 copied-requires c =
     let zero = c.if-number-ne0.false in
-    let said = (c.start-number.ensures.number, c.start-number.ensures.state) in
-    began-front (sym said.0 ∙ zero) (said.1 zero)
+    began-front (sym c.start-number.ensures.number ∙ zero) (c.start-number.ensures.state zero)
 
 pub returns : goal.returns
 unfolding plan_in
 returns c =
     let zero = c.if-number-ne0.false in
-    let said = (c.start-number.ensures.number, c.start-number.ensures.state) in
-    accepted-begins (sym said.0 ∙ zero) (said.1 zero) _ _ c.whole.ensures c.copied.ensures
+    accepted-begins (sym c.start-number.ensures.number ∙ zero) (c.start-number.ensures.state zero) _ _ c.whole.ensures c.copied.ensures

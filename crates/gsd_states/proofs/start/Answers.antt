@@ -17,10 +17,9 @@ put_marks-requires c =
 
 pub returns : goal.returns
 returns c =
-    let planned = c.plan_append-number in
-    let ok = sym planned.ensures.number ∙ c.if-number-ne0.false in
+    let ok = sym c.plan_append-number.ensures.number ∙ c.if-number-ne0.false in
     record {
       number = sym ok;
-      state = λ _. began-put _ _ planned.new.1.1.0 _ _ (λ i. omega (arith, c.type_inv.image i))
-          (λ i. omega (arith, c.type_inv.sheet i)) (planned.ensures.plan ok) c.put_marks.ensures;
+      state = λ _. began-put _ _ c.plan_append-number.new.1.1.0 _ _ (λ i. omega (arith, c.type_inv.image i))
+          (λ i. omega (arith, c.type_inv.sheet i)) (c.plan_append-number.ensures.plan ok) c.put_marks.ensures;
     }

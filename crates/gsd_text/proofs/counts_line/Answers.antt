@@ -6,8 +6,4 @@ use Rattle.gsd_text.proofs.counts_line.Goals as goal
 
 pub returns : goal.returns
 unfolding ascii counts_line
-returns c =
-    let l3 = c.labelled-at-3 in
-    let l2 = c.labelled-at-2 in
-    let l1 = c.labelled-at in
-    record { bound = c.ended.ensures.bound; text = rw (c.ended.ensures.text, l3.ensures.0, l2.ensures.0, l1.ensures.0) }
+returns c = record { bound = c.ended.ensures.bound; text = rw (c.ended.ensures.text, c.labelled-at-3.ensures.text, c.labelled-at-2.ensures.text, c.labelled-at.ensures.text) }

@@ -19,20 +19,17 @@ decimal-at-requires c = omega (arith, decimal-long c.args.e.frame (omega arith))
 pub fields-size-requires : goal.fields-size-requires
 fields-size-requires c =
     let e = c.args.e in
-    let d = c.decimal-at in
     let short = fields-short (numbers e) (omega arith, (omega arith, (omega arith, (omega arith, (omega arith, tt))))) in
-    omega (arith, d.auto.0, d.ensures.1, decimal-long e.frame (omega arith))
+    omega (arith, c.decimal-at.auto.0, c.decimal-at.ensures.answer, decimal-long e.frame (omega arith))
 
 pub returns : goal.returns
 unfolding entry_line
 returns c =
     let e = c.args.e in
-    let d = c.decimal-at in
-    let f = c.fields-size in
     let digits = decimal-long e.frame (omega arith) in
     let short = fields-short (numbers e) (omega arith, (omega arith, (omega arith, (omega arith, (omega arith, tt))))) in
     record {
-      bound = omega (arith, d.ensures.1, f.ensures.1);
-      text = stored-front d.new.0 d.result (fields (numbers e)) f.new.0 f.result f.ensures.0 f.ensures.1 (omega (arith, d.auto.0, d.ensures.1))
-          ∙ ap (λ s. s ++ fields (numbers e)) (stored-front _ 0 (decimal e.frame) d.new.0 d.result d.ensures.0 d.ensures.1 (omega arith));
+      bound = omega (arith, c.decimal-at.ensures.answer, c.fields-size.ensures.answer);
+      text = stored-front c.decimal-at.new.0 c.decimal-at.result (fields (numbers e)) c.fields-size.new.0 c.fields-size.result c.fields-size.ensures.text c.fields-size.ensures.answer (omega (arith, c.decimal-at.auto.0, c.decimal-at.ensures.answer))
+          ∙ ap (λ s. s ++ fields (numbers e)) (stored-front _ 0 (decimal e.frame) c.decimal-at.new.0 c.decimal-at.result c.decimal-at.ensures.text c.decimal-at.ensures.answer (omega arith));
     }

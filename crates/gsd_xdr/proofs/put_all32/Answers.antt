@@ -14,14 +14,11 @@ unfolding stored be_row
 loop-i-init c = (search rules, refl, refl)
 
 pub loop-i-preserved : goal.loop-i-preserved
-loop-i-preserved c =
-    let loop = c.loop-i in
-    let u32-at = c.u32_at in
-    let put-be32 = c.put_be32 in (
-      search rules,
-      search rules,
-      store-next 4 _ _ _ loop.i _ _ _ _ loop.invariant.2 u32-at.ensures.0 refl put-be32.ensures,
-    )
+loop-i-preserved c = (
+  search rules,
+  search rules,
+  store-next 4 _ _ _ c.loop-i.i _ _ _ _ c.loop-i.invariant.2 c.u32_at.ensures.answer refl c.put_be32.ensures,
+)
 
 pub returns : goal.returns
 returns c = store-all 4 _ _ _ _ _ _ (omega arith) c.loop-i.invariant.2

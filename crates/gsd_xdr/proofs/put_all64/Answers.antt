@@ -9,8 +9,5 @@ returns-then-n-eq0 c = store-all 8 _ _ _ _ _ _ (omega arith) c.put_pairs64.ensur
 
 pub returns : goal.returns
 returns c =
-    let put-pairs64 = c.put_pairs64 in
-    let u64-at = c.u64_at in
-    let put-be64 = c.put_be64 in
     store-all 8 _ _ _ _ _ _ (omega arith)
-    (store-next 8 _ _ _ _ _ _ _ _ put-pairs64.ensures (number_is 8 _ _ _ _ _ u64-at.ensures (omega arith)) (omega arith) put-be64.ensures)
+    (store-next 8 _ _ _ _ _ _ _ _ c.put_pairs64.ensures (number_is 8 _ _ _ _ _ c.u64_at.ensures (omega arith)) (omega arith) c.put_be64.ensures)

@@ -15,18 +15,13 @@ loop-i-init c = (search rules, refl, refl)
 
 pub loop-i-preserved : goal.loop-i-preserved
 loop-i-preserved c =
-    let loop = c.loop-i in
-    let u64-at = c.u64_at in
-    let put-be64 = c.put_be64 in
-    let u64-at2 = c.u64_at-in-loop-i in
-    let put-be642 = c.put_be64-in-loop-i in
-    let i = loop.i * 2 in (
+    let i = c.loop-i.i * 2 in (
       search rules,
       search rules,
       store-all 8 _ _ _ (i + 1 + 1) _ _ (omega arith)
           (store-next 8 _ _ _ (i + 1) _ _ _ _
-          (store-next 8 _ _ _ i _ _ _ _ loop.invariant.2 (number_is 8 _ _ i _ _ u64-at.ensures (omega arith)) (omega arith) put-be64.ensures)
-          (number_is 8 _ _ (i + 1) _ _ u64-at2.ensures (omega arith)) (omega arith) put-be642.ensures),
+          (store-next 8 _ _ _ i _ _ _ _ c.loop-i.invariant.2 (number_is 8 _ _ i _ _ c.u64_at.ensures (omega arith)) (omega arith) c.put_be64.ensures)
+          (number_is 8 _ _ (i + 1) _ _ c.u64_at-in-loop-i.ensures (omega arith)) (omega arith) c.put_be64-in-loop-i.ensures),
     )
 
 pub returns : goal.returns

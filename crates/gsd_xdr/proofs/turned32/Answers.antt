@@ -5,10 +5,4 @@ use borrow.Author.Rules.{rules}
 use Rattle.gsd_xdr.proofs.turned32.Goals as goal
 
 pub returns : goal.returns
-returns c =
-    let said = (
-  turn-halves 2 _ _ _ c.turned16.ensures.bound c.turned16.ensures.answer c.turned16-2.ensures.answer,
-  omega (arith, c.turned16.ensures.bound, c.turned16-2.ensures.bound), in
-    record { answer = said.0; bound = said.1 }
-
-)
+returns c = record { answer = turn-halves 2 _ _ _ c.turned16.ensures.bound c.turned16.ensures.answer c.turned16-2.ensures.answer; bound = omega (arith, c.turned16.ensures.bound, c.turned16-2.ensures.bound) }

@@ -10,9 +10,5 @@ use Rattle.gsd_body.proofs.doubles.put_column64.Goals as goal
 pub returns : goal.returns
 unfolding be_bytes size_of
 returns c =
-    let column64 = c.column64-e in
-    let put-f64 = c.put_f64 in
-    let put-f642 = c.put_f64-2 in
-    let put-all64 = c.put_all64 in
-    store-more _ _ _ 28 44 _ _ (store-more _ _ _ 28 36 _ _ put-f64.ensures refl put-f642.ensures) refl put-all64.ensures
-    ∙ ap (stored _ 28) (body-one 10 8 refl _ _ _ _ _ column64.ensures.0)
+    store-more _ _ _ 28 44 _ _ (store-more _ _ _ 28 36 _ _ c.put_f64.ensures refl c.put_f64-2.ensures) refl c.put_all64.ensures
+    ∙ ap (stored _ 28) (body-one 10 8 refl _ _ _ _ _ c.column64-e.ensures.extremes)

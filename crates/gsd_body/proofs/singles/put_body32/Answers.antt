@@ -7,30 +7,13 @@ use borrow.Author.Rules.{rules}
 use Rattle.gsd_body.proofs.singles.put_body32.Goals as goal
 
 pub put_column32-requires : goal.put_column32-requires
-put_column32-requires c =
-    let said = (
-  c.requires.some,
-  (
-    (let h = rw c.if-m-eq1.true at c.requires.from in omega arith),
-    (
-      rw (c.if-m-eq1.true, mul-one) at c.requires.numbers,
-      (let h = rw c.if-m-eq1.true at c.requires.to in omega arith),
-    ),
-  ), in
-    record { some = said.0; from = said.1.0; numbers = said.1.1.0; to = said.1.1.1 }
-
-)
+put_column32-requires c = record { some = c.requires.some; from = (let h = rw c.if-m-eq1.true at c.requires.from in omega arith); numbers = rw (c.if-m-eq1.true, mul-one) at c.requires.numbers; to = (let h = rw c.if-m-eq1.true at c.requires.to in omega arith) }
 
 pub returns-then-m-eq1 : goal.returns-then-m-eq1
 returns-then-m-eq1 c = body-as _ _ _ 1 _ _ _ _ _ refl c.if-m-eq1.true c.put_column32.ensures
 
 pub put_columns32-requires : goal.put_columns32-requires
-put_columns32-requires c =
-    let if1 = c.if-m-eq1 in
-    record { some = c.requires.some; from = (let h = rw (second-of _ 1 3 c.requires.columns if1.false) at c.requires.from in omega arith); numbers = rw (second-of _ 1 3 c.requires.columns if1.false) at c.requires.numbers; to = (let h = rw (second-of _ 1 3 c.requires.columns if1.false) at c.requires.to in omega arith) }
+put_columns32-requires c = record { some = c.requires.some; from = (let h = rw (second-of _ 1 3 c.requires.columns c.if-m-eq1.false) at c.requires.from in omega arith); numbers = rw (second-of _ 1 3 c.requires.columns c.if-m-eq1.false) at c.requires.numbers; to = (let h = rw (second-of _ 1 3 c.requires.columns c.if-m-eq1.false) at c.requires.to in omega arith) }
 
 pub returns : goal.returns
-returns c =
-    let if1 = c.if-m-eq1 in
-    let put-columns32 = c.put_columns32 in
-    body-as _ _ _ 3 _ _ _ _ _ refl (second-of _ 1 3 c.requires.columns if1.false) put-columns32.ensures
+returns c = body-as _ _ _ 3 _ _ _ _ _ refl (second-of _ 1 3 c.requires.columns c.if-m-eq1.false) c.put_columns32.ensures

@@ -10,9 +10,5 @@ use Rattle.gsd_body.proofs.singles.put_column32.Goals as goal
 pub returns : goal.returns
 unfolding be_bytes size_of
 returns c =
-    let column32 = c.column32-e in
-    let put-f32 = c.put_f32 in
-    let put-f322 = c.put_f32-2 in
-    let put-all32 = c.put_all32 in
-    store-more _ _ _ 28 36 _ _ (store-more _ _ _ 28 32 _ _ put-f32.ensures refl put-f322.ensures) refl put-all32.ensures
-    ∙ ap (stored _ 28) (body-one 9 4 refl _ _ _ _ _ column32.ensures.0)
+    store-more _ _ _ 28 36 _ _ (store-more _ _ _ 28 32 _ _ c.put_f32.ensures refl c.put_f32-2.ensures) refl c.put_all32.ensures
+    ∙ ap (stored _ 28) (body-one 9 4 refl _ _ _ _ _ c.column32-e.ensures.extremes)

@@ -9,21 +9,7 @@ pub fours64-requires : goal.fours64-requires
 fours64-requires c = record { inside = omega (arith, c.requires.some, c.requires.inside); numbers = fewer _ _ _ _ _ (omega (arith, c.requires.some)) c.requires.numbers }
 
 pub rest64-requires : goal.rest64-requires
-rest64-requires c =
-    let said = (
-  omega arith,
-  (
-    omega (arith, c.requires.some),
-    (
-      c.requires.inside,
-      (c.requires.numbers, c.fours64.ensures),
-    ),
-  ), in
-    record { some = said.0; within = said.1.0; inside = said.1.1.0; numbers = said.1.1.1.0; so_far = said.1.1.1.1 }
-
-)
+rest64-requires c = record { some = omega arith; within = omega (arith, c.requires.some); inside = c.requires.inside; numbers = c.requires.numbers; so_far = c.fours64.ensures }
 
 pub returns : goal.returns
-returns c =
-    let rest64 = c.rest64 in
-    record { extremes = rest64.ensures; numbers = patterned 10 nan-double _ _ 1 _ 0 (omega arith) (as-column _ _ _ _ c.requires.numbers) c.requires.some _ _ rest64.ensures }
+returns c = record { extremes = c.rest64.ensures; numbers = patterned 10 nan-double _ _ 1 _ 0 (omega arith) (as-column _ _ _ _ c.requires.numbers) c.requires.some _ _ c.rest64.ensures }

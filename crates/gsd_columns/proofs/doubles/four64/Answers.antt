@@ -27,20 +27,9 @@ f64_at-requires-4-clause-number c = number_at 10 8 refl _ _ _ (omega arith) (c.r
 pub returns : goal.returns
 unfolding size_of
 returns c =
-    let f64-at = c.f64_at in
-    let of = c.of-a in
-    let f64-at2 = c.f64_at-2 in
-    let of2 = c.of-b in
-    let f64-at3 = c.f64_at-3 in
-    let of3 = c.of-c in
-    let f64-at4 = c.f64_at-4 in
-    let of4 = c.of-d in
-    let joined = c.joined in
-    let joined2 = c.joined-2 in
-    let joined3 = c.joined-3 in
     extremes-four _ _ _ _ _ _ _ _ _ _ _ _ _ _ _ (strided-number 10 nan-double _ _ _ 4 c.requires.numbers)
-    (extremes-one _ _ _ _ (value-at 10 8 refl _ _ _ _ (omega arith) f64-at.ensures) of.ensures.0 of.ensures.1)
-    (extremes-one _ _ _ _ (value-at 10 8 refl _ _ _ _ (omega arith) f64-at2.ensures) of2.ensures.0 of2.ensures.1)
-    (extremes-one _ _ _ _ (value-at 10 8 refl _ _ _ _ (omega arith) f64-at3.ensures) of3.ensures.0 of3.ensures.1)
-    (extremes-one _ _ _ _ (value-at 10 8 refl _ _ _ _ (omega arith) f64-at4.ensures) of4.ensures.0 of4.ensures.1)
-    joined.ensures joined2.ensures joined3.ensures
+    (extremes-one _ _ _ _ (value-at 10 8 refl _ _ _ _ (omega arith) c.f64_at.ensures) c.of-a.ensures.smallest c.of-a.ensures.largest)
+    (extremes-one _ _ _ _ (value-at 10 8 refl _ _ _ _ (omega arith) c.f64_at-2.ensures) c.of-b.ensures.smallest c.of-b.ensures.largest)
+    (extremes-one _ _ _ _ (value-at 10 8 refl _ _ _ _ (omega arith) c.f64_at-3.ensures) c.of-c.ensures.smallest c.of-c.ensures.largest)
+    (extremes-one _ _ _ _ (value-at 10 8 refl _ _ _ _ (omega arith) c.f64_at-4.ensures) c.of-d.ensures.smallest c.of-d.ensures.largest)
+    c.joined.ensures c.joined-2.ensures c.joined-3.ensures

@@ -9,21 +9,7 @@ pub fours32-requires : goal.fours32-requires
 fours32-requires c = record { inside = omega (arith, c.requires.some, c.requires.inside); numbers = fewer _ _ _ _ _ (omega (arith, c.requires.some)) c.requires.numbers }
 
 pub rest32-requires : goal.rest32-requires
-rest32-requires c =
-    let said = (
-  omega arith,
-  (
-    omega (arith, c.requires.some),
-    (
-      c.requires.inside,
-      (c.requires.numbers, c.fours32.ensures),
-    ),
-  ), in
-    record { some = said.0; within = said.1.0; inside = said.1.1.0; numbers = said.1.1.1.0; so_far = said.1.1.1.1 }
-
-)
+rest32-requires c = record { some = omega arith; within = omega (arith, c.requires.some); inside = c.requires.inside; numbers = c.requires.numbers; so_far = c.fours32.ensures }
 
 pub returns : goal.returns
-returns c =
-    let rest32 = c.rest32 in
-    record { extremes = rest32.ensures; numbers = patterned 9 nan-single _ _ 1 _ 0 (omega arith) (as-column _ _ _ _ c.requires.numbers) c.requires.some _ _ rest32.ensures }
+returns c = record { extremes = c.rest32.ensures; numbers = patterned 9 nan-single _ _ 1 _ 0 (omega arith) (as-column _ _ _ _ c.requires.numbers) c.requires.some _ _ c.rest32.ensures }

@@ -9,21 +9,7 @@ pub three_fours32-requires : goal.three_fours32-requires
 three_fours32-requires c = record { inside = omega (arith, c.requires.some, c.requires.inside); numbers = fewer _ _ _ _ _ (omega (arith, c.requires.some)) c.requires.numbers }
 
 pub three_rest32-requires : goal.three_rest32-requires
-three_rest32-requires c =
-    let said = (
-  omega arith,
-  (
-    omega (arith, c.requires.some),
-    (
-      c.requires.inside,
-      (c.requires.numbers, (c.three_fours32.ensures.x, (c.three_fours32.ensures.y, c.three_fours32.ensures.z))),
-    ),
-  ), in
-    record { some = said.0; within = said.1.0; inside = said.1.1.0; numbers = said.1.1.1.0; x = said.1.1.1.1.0; y = said.1.1.1.1.1.0; z = said.1.1.1.1.1.1 }
-
-)
+three_rest32-requires c = record { some = omega arith; within = omega (arith, c.requires.some); inside = c.requires.inside; numbers = c.requires.numbers; x = c.three_fours32.ensures.x; y = c.three_fours32.ensures.y; z = c.three_fours32.ensures.z }
 
 pub returns : goal.returns
-returns c =
-    let three-rest32 = c.three_rest32 in
-    record { x = three-rest32.ensures.0; y = three-rest32.ensures.1.0; z = three-rest32.ensures.1.1; numbers_x = patterned 9 nan-single _ _ 3 _ 0 (omega arith) c.requires.numbers c.requires.some _ _ three-rest32.ensures.0; numbers_y = patterned 9 nan-single _ _ 3 _ 1 (omega arith) c.requires.numbers c.requires.some _ _ three-rest32.ensures.1.0; numbers_z = patterned 9 nan-single _ _ 3 _ 2 (omega arith) c.requires.numbers c.requires.some _ _ three-rest32.ensures.1.1 }
+returns c = record { x = c.three_rest32.ensures.x; y = c.three_rest32.ensures.y; z = c.three_rest32.ensures.z; numbers_x = patterned 9 nan-single _ _ 3 _ 0 (omega arith) c.requires.numbers c.requires.some _ _ c.three_rest32.ensures.x; numbers_y = patterned 9 nan-single _ _ 3 _ 1 (omega arith) c.requires.numbers c.requires.some _ _ c.three_rest32.ensures.y; numbers_z = patterned 9 nan-single _ _ 3 _ 2 (omega arith) c.requires.numbers c.requires.some _ _ c.three_rest32.ensures.z }

@@ -17,30 +17,20 @@ f32_at-requires-clause-number c = number_at 9 4 refl _ _ _ refl (numbers-at 9 4 
 
 pub loop-i-init : goal.loop-i-init
 unfolding size_of
-loop-i-init c =
-    let f32-at = c.f32_at in
-    let of = c.of-e in
-    (omega arith, extremes-one _ _ _ _ (value-at 9 4 refl _ _ _ _ (omega arith) f32-at.ensures) of.ensures.0 of.ensures.1)
+loop-i-init c = (omega arith, extremes-one _ _ _ _ (value-at 9 4 refl _ _ _ _ (omega arith) c.f32_at.ensures) c.of-e.ensures.smallest c.of-e.ensures.largest)
 
 pub four32-requires-clause-numbers : goal.four32-requires-clause-numbers
 unfolding size_of
-four32-requires-clause-numbers c =
-    let loop = c.loop-i in
-    let loop-test = c.loop-i-test.true in
-    λ i l. numbers-at 9 4 refl _ _ _ c.requires.numbers (1 + loop.i * 4 + i) _ (omega (arith, loop-test.true)) (omega arith)
+four32-requires-clause-numbers c = λ i l. numbers-at 9 4 refl _ _ _ c.requires.numbers (1 + c.loop-i.i * 4 + i) _ (omega (arith, c.loop-i-test.true)) (omega arith)
 
 pub loop-i-preserved : goal.loop-i-preserved
 unfolding size_of
-loop-i-preserved c =
-    let loop = c.loop-i in
-    let loop-test = c.loop-i-test.true in
-    let four32 = c.four32 in
-    let joined = c.joined-e in (
-      search rules,
-      extremes-same _ _ _ _ _ _ (λ j. refl) (omega arith)
-          (column-joins 9 nan-single _ _ 1 _ 0 (omega arith) (as-column _ _ _ _ c.requires.numbers) 4 refl (1 + loop.i * 4) 4 _ 4 _ _ _ _ _ _
-          (omega arith) (omega arith) (omega (arith, loop-test.true)) (λ j. omega arith) loop.invariant.1 four32.ensures joined.ensures),
-    )
+loop-i-preserved c = (
+  search rules,
+  extremes-same _ _ _ _ _ _ (λ j. refl) (omega arith)
+      (column-joins 9 nan-single _ _ 1 _ 0 (omega arith) (as-column _ _ _ _ c.requires.numbers) 4 refl (1 + c.loop-i.i * 4) 4 _ 4 _ _ _ _ _ _
+      (omega arith) (omega arith) (omega (arith, c.loop-i-test.true)) (λ j. omega arith) c.loop-i.invariant.1 c.four32.ensures c.joined-e.ensures),
+)
 
 pub returns : goal.returns
 returns c = extremes-same _ _ _ _ _ _ (λ j. refl) (omega (arith, c.loop-i.invariant.0, c.loop-i-test.false)) c.loop-i.invariant.1

@@ -16,26 +16,18 @@ loop-i-init c = (c.requires.some, c.requires.within, c.requires.so_far)
 
 pub f32_at-requires-clause-number : goal.f32_at-requires-clause-number
 unfolding size_of
-f32_at-requires-clause-number c =
-    let loop = c.loop-i in
-    let loop-test = c.loop-i-test.true in
-    number_at 9 4 refl _ _ _ refl (numbers-at 9 4 refl _ _ _ c.requires.numbers loop.i _ loop-test.true refl)
+f32_at-requires-clause-number c = number_at 9 4 refl _ _ _ refl (numbers-at 9 4 refl _ _ _ c.requires.numbers c.loop-i.i _ c.loop-i-test.true refl)
 
 pub loop-i-preserved : goal.loop-i-preserved
 unfolding size_of
-loop-i-preserved c =
-    let loop = c.loop-i in
-    let loop-test = c.loop-i-test.true in
-    let f32-at = c.f32_at in
-    let of = c.of in
-    let joined = c.joined-e in (
-      omega arith,
-      omega arith,
-      column-joins 9 nan-single _ _ 1 _ 0 (omega arith) (as-column _ _ _ _ c.requires.numbers)
-          4 refl loop.i 1 (c.args.at + loop.i * 4) 4 _ _ _ _ _ _
-          loop.invariant.0 (omega arith) (omega (arith, loop-test.true)) (λ j. omega arith) loop.invariant.2
-          (extremes-one _ _ _ _ (value-at 9 4 refl _ _ _ _ (omega arith) f32-at.ensures) of.ensures.0 of.ensures.1) joined.ensures,
-    )
+loop-i-preserved c = (
+  omega arith,
+  omega arith,
+  column-joins 9 nan-single _ _ 1 _ 0 (omega arith) (as-column _ _ _ _ c.requires.numbers)
+      4 refl c.loop-i.i 1 (c.args.at + c.loop-i.i * 4) 4 _ _ _ _ _ _
+      c.loop-i.invariant.0 (omega arith) (omega (arith, c.loop-i-test.true)) (λ j. omega arith) c.loop-i.invariant.2
+      (extremes-one _ _ _ _ (value-at 9 4 refl _ _ _ _ (omega arith) c.f32_at.ensures) c.of.ensures.smallest c.of.ensures.largest) c.joined-e.ensures,
+)
 
 pub returns : goal.returns
 returns c = extremes-same _ _ _ _ _ _ (λ j. refl) (omega (arith, c.loop-i.invariant.1, c.loop-i-test.false)) c.loop-i.invariant.2

@@ -17,49 +17,31 @@ of-t-requires-clause-numbers c = λ k l. numbers-at 9 4 refl _ _ _ c.requires.nu
 
 pub loop-i-init : goal.loop-i-init
 unfolding size_of
-loop-i-init c =
-    (
+loop-i-init c = (
   omega arith,
   strided-column 9 4 refl _ _ 3 0 _ 12 _ _ _ _ (λ j. omega arith) (omega arith) c.of-t.ensures.x,
   strided-column 9 4 refl _ _ 3 1 _ 12 _ _ _ _ (λ j. omega arith) (omega arith) c.of-t.ensures.y,
   strided-column 9 4 refl _ _ 3 2 _ 12 _ _ _ _ (λ j. omega arith) (omega arith) c.of-t.ensures.z,
-
 )
 
 pub of_four-requires-clause-numbers : goal.of_four-requires-clause-numbers
 unfolding size_of
-of_four-requires-clause-numbers c =
-    let loop = c.loop-i in
-    let loop-test = c.loop-i-test.true in
-    λ k l. numbers-at 9 4 refl _ _ _ c.requires.numbers ((1 + loop.i * 4) * 3 + k) _ (omega (arith, loop-test.true)) (omega arith)
+of_four-requires-clause-numbers c = λ k l. numbers-at 9 4 refl _ _ _ c.requires.numbers ((1 + c.loop-i.i * 4) * 3 + k) _ (omega (arith, c.loop-i-test.true)) (omega arith)
 
 pub loop-i-preserved : goal.loop-i-preserved
 unfolding size_of
-loop-i-preserved c =
-    let loop = c.loop-i in
-    let loop-test = c.loop-i-test.true in
-    let of_four = c.of_four in
-    let joined = c.joined-t in (
-      search rules,
-      extremes-same _ _ _ _ _ _ (λ j. refl) (omega arith)
-          (column-joins 9 nan-single _ _ 3 _ 0 (omega arith) c.requires.numbers 4 refl (1 + loop.i * 4) 4 _ 12 _ _ _ _ _ _
-          (omega arith) (omega arith) (omega (arith, loop-test.true)) (λ j. omega arith) loop.invariant.1 of_four.ensures.0 joined.ensures.0),
-      extremes-same _ _ _ _ _ _ (λ j. refl) (omega arith)
-          (column-joins 9 nan-single _ _ 3 _ 1 (omega arith) c.requires.numbers 4 refl (1 + loop.i * 4) 4 _ 12 _ _ _ _ _ _
-          (omega arith) (omega arith) (omega (arith, loop-test.true)) (λ j. omega arith) loop.invariant.2 of_four.ensures.1.0 joined.ensures.1.0),
-      extremes-same _ _ _ _ _ _ (λ j. refl) (omega arith)
-          (column-joins 9 nan-single _ _ 3 _ 2 (omega arith) c.requires.numbers 4 refl (1 + loop.i * 4) 4 _ 12 _ _ _ _ _ _
-          (omega arith) (omega arith) (omega (arith, loop-test.true)) (λ j. omega arith) loop.invariant.3 of_four.ensures.1.1 joined.ensures.1.1),
-    )
+loop-i-preserved c = (
+  search rules,
+  extremes-same _ _ _ _ _ _ (λ j. refl) (omega arith)
+      (column-joins 9 nan-single _ _ 3 _ 0 (omega arith) c.requires.numbers 4 refl (1 + c.loop-i.i * 4) 4 _ 12 _ _ _ _ _ _
+      (omega arith) (omega arith) (omega (arith, c.loop-i-test.true)) (λ j. omega arith) c.loop-i.invariant.1 c.of_four.ensures.x c.joined-t.ensures.x),
+  extremes-same _ _ _ _ _ _ (λ j. refl) (omega arith)
+      (column-joins 9 nan-single _ _ 3 _ 1 (omega arith) c.requires.numbers 4 refl (1 + c.loop-i.i * 4) 4 _ 12 _ _ _ _ _ _
+      (omega arith) (omega arith) (omega (arith, c.loop-i-test.true)) (λ j. omega arith) c.loop-i.invariant.2 c.of_four.ensures.y c.joined-t.ensures.y),
+  extremes-same _ _ _ _ _ _ (λ j. refl) (omega arith)
+      (column-joins 9 nan-single _ _ 3 _ 2 (omega arith) c.requires.numbers 4 refl (1 + c.loop-i.i * 4) 4 _ 12 _ _ _ _ _ _
+      (omega arith) (omega arith) (omega (arith, c.loop-i-test.true)) (λ j. omega arith) c.loop-i.invariant.3 c.of_four.ensures.z c.joined-t.ensures.z),
+)
 
 pub returns : goal.returns
-returns c =
-    let said = (
-  extremes-same _ _ _ _ _ _ (λ j. refl) (omega (arith, c.loop-i.invariant.0, c.loop-i-test.false)) c.loop-i.invariant.1,
-  (
-    extremes-same _ _ _ _ _ _ (λ j. refl) (omega (arith, c.loop-i.invariant.0, c.loop-i-test.false)) c.loop-i.invariant.2,
-    extremes-same _ _ _ _ _ _ (λ j. refl) (omega (arith, c.loop-i.invariant.0, c.loop-i-test.false)) c.loop-i.invariant.3,
-  ), in
-    record { x = said.0; y = said.1.0; z = said.1.1 }
-
-)
+returns c = record { x = extremes-same _ _ _ _ _ _ (λ j. refl) (omega (arith, c.loop-i.invariant.0, c.loop-i-test.false)) c.loop-i.invariant.1; y = extremes-same _ _ _ _ _ _ (λ j. refl) (omega (arith, c.loop-i.invariant.0, c.loop-i-test.false)) c.loop-i.invariant.2; z = extremes-same _ _ _ _ _ _ (λ j. refl) (omega (arith, c.loop-i.invariant.0, c.loop-i-test.false)) c.loop-i.invariant.3 }

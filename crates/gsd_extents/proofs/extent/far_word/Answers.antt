@@ -10,51 +10,42 @@ use Rattle.gsd_extents.proofs.Words.{from-within, source-within, le-before, byte
 use Rattle.gsd_extents.proofs.extent.far_word.Goals as goal
 
 pub source-at-requires : goal.source-at-requires
-source-at-requires c =
-    let g = (c.requires.good, c.requires.copies, c.requires.word) in
-    record { target = omega (arith, from-within _ _ _ g.0 g.1.0); source = omega (arith, from-within _ _ _ g.0 g.1.0); word = omega (arith, from-within _ _ _ g.0 g.1.0) }
+source-at-requires c = record { target = omega (arith, from-within _ _ _ c.requires.good c.requires.copies); source = omega (arith, from-within _ _ _ c.requires.good c.requires.copies); word = omega (arith, from-within _ _ _ c.requires.good c.requires.copies) }
 
 pub loop-k-init : goal.loop-k-init
 unfolding le
 loop-k-init c = (search rules, (refl, omega arith))
 
 pub overflow_add-at : goal.overflow_add-at
-overflow_add-at c =
-    let g = (c.requires.good, c.requires.copies, c.requires.word) in omega (arith, c.source-at.ensures, (source-within _ _ _ g.0 g.1.0 _ g.1.1).0)
+overflow_add-at c = omega (arith, c.source-at.ensures, (source-within _ _ _ c.requires.good c.requires.copies _ c.requires.word).0)
 
 pub far_byte-requires : goal.far_byte-requires
-far_byte-requires c =
-    let g = (c.requires.good, c.requires.copies, c.requires.word) in
-    record { good = g.0; copies = g.1.0; read = λ e. omega (arith, c.source-at.ensures, (source-within _ _ _ g.0 g.1.0 _ g.1.1).1 e) }
+far_byte-requires c = record { good = c.requires.good; copies = c.requires.copies; read = λ e. omega (arith, c.source-at.ensures, (source-within _ _ _ c.requires.good c.requires.copies _ c.requires.word).1 e) }
 
 pub overflow_mul-v : goal.overflow_mul-v
 overflow_mul-v c =
-    let loop = c.loop-k in
-    let l = bytes-before 8 c.far_byte.result loop.v loop.k (omega arith) (omega arith) c.far_byte.ensures.bound loop.invariant.1.1 in
-    omega (arith, bytes_fit 8 (loop.k - 1) _ (omega arith) l)
+    let l = bytes-before 8 c.far_byte.result c.loop-k.v c.loop-k.k (omega arith) (omega arith) c.far_byte.ensures.bound c.loop-k.invariant.1.1 in
+    omega (arith, bytes_fit 8 (c.loop-k.k - 1) _ (omega arith) l)
 
 pub overflow_add-v : goal.overflow_add-v
 overflow_add-v c =
-    let loop = c.loop-k in
-    let l = bytes-before 8 c.far_byte.result loop.v loop.k (omega arith) (omega arith) c.far_byte.ensures.bound loop.invariant.1.1 in
-    omega (arith, bytes_fit 8 (loop.k - 1) _ (omega arith) l)
+    let l = bytes-before 8 c.far_byte.result c.loop-k.v c.loop-k.k (omega arith) (omega arith) c.far_byte.ensures.bound c.loop-k.invariant.1.1 in
+    omega (arith, bytes_fit 8 (c.loop-k.k - 1) _ (omega arith) l)
 
 pub loop-k-preserved : goal.loop-k-preserved
 loop-k-preserved c =
-    let loop = c.loop-k in
     let x = c.args in
     let t = text_of x.sheet.now x.image.now x.extent in (
       search rules,
       (
-        omega (arith, c.far_byte.ensures.answer, loop.invariant.1.0, le-before 8 t c.source-at.result loop.k (omega arith) (omega arith)),
-        bytes-before 8 c.far_byte.result loop.v loop.k (omega arith) (omega arith) c.far_byte.ensures.bound loop.invariant.1.1,
+        omega (arith, c.far_byte.ensures.answer, c.loop-k.invariant.1.0, le-before 8 t c.source-at.result c.loop-k.k (omega arith) (omega arith)),
+        bytes-before 8 c.far_byte.result c.loop-k.v c.loop-k.k (omega arith) (omega arith) c.far_byte.ensures.bound c.loop-k.invariant.1.1,
       ),
     )
 
 pub returns : goal.returns
 returns c =
-    let source = c.source-at in
     let x = c.args in
     let t = text_of x.sheet.now x.image.now x.extent in
     let z : c.loop-k.k ≡ 0 = omega arith in
-    c.loop-k.invariant.1.0 ∙ ap (λ k. le (8 - k) t (source.result + k)) z ∙ ap (le 8 t) (add-zero _ ∙ source.ensures)
+    c.loop-k.invariant.1.0 ∙ ap (λ k. le (8 - k) t (c.source-at.result + k)) z ∙ ap (le 8 t) (add-zero _ ∙ c.source-at.ensures)

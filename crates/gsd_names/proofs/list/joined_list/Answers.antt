@@ -11,10 +11,7 @@ loop-start-init c = (rw c.keep.ensures (joined-none _ _ c.requires.recent c.args
 pub loop-start-preserved : goal.loop-start-preserved
 loop-start-preserved c =
     let inv = c.loop-start.invariant in
-    let pre = (c.requires.recent, c.requires.inside, c.requires.short, c.requires.places) in
-    (rw c.keep-in-loop-start.ensures (joined-more _ _ pre.0 pre.1.0 _ _ _ _ inv.0 c.loop-start-test.true inv.1), c.past_name-next-in-loop-start.ensures)
+    (rw c.keep-in-loop-start.ensures (joined-more _ _ c.requires.recent c.requires.inside _ _ _ _ inv.0 c.loop-start-test.true inv.1), c.past_name-next-in-loop-start.ensures)
 
 pub returns : goal.returns
-returns c =
-    let pre = (c.requires.recent, c.requires.inside, c.requires.short, c.requires.places) in
-    joined-all _ _ pre.0 _ _ _ _ c.loop-start.invariant.0 c.loop-start-test.false c.loop-start.invariant.1 _ c.goes_on.ensures
+returns c = joined-all _ _ c.requires.recent _ _ _ _ c.loop-start.invariant.0 c.loop-start-test.false c.loop-start.invariant.1 _ c.goes_on.ensures

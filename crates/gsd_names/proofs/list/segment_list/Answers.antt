@@ -10,14 +10,12 @@ loop-count-init c = rw c.keep.ensures (segmented-none _ _ c.requires.segmented c
 
 pub loop-count-preserved : goal.loop-count-preserved
 loop-count-preserved c =
-    let pre = (c.requires.segmented, c.requires.inside, c.requires.short, c.requires.places) in
-    rw c.keep-in-loop-count.ensures (segmented-more _ _ pre.0 _ _ _ c.loop-count.invariant pre.1.0 c.loop-count-test.true
+    rw c.keep-in-loop-count.ensures (segmented-more _ _ c.requires.segmented _ _ _ c.loop-count.invariant c.requires.inside c.loop-count-test.true
     _ c.past_name-next.ensures c.if-next-segment.false)
 
 pub returns : goal.returns
 returns c =
-    let pre = (c.requires.segmented, c.requires.inside, c.requires.short, c.requires.places) in
     ⊎_elim
-    (λ w. segmented-all _ _ pre.0 _ _ _ c.loop-count.invariant _ c.goes_on.ensures w.left)
-    (λ w. segmented-end _ _ pre.0 _ _ _ c.loop-count.invariant _ c.goes_on.ensures w.0.taken _ w.1.ensures w.2.taken)
+    (λ w. segmented-all _ _ c.requires.segmented _ _ _ c.loop-count.invariant _ c.goes_on.ensures w.left)
+    (λ w. segmented-end _ _ c.requires.segmented _ _ _ c.loop-count.invariant _ c.goes_on.ensures w.0.taken _ w.1.ensures w.2.taken)
     c.loop-count-test.branch

@@ -22,9 +22,7 @@ pub loop-j-init : goal.loop-j-init
 loop-j-init c = (search rules, (search rules, refl))
 
 pub are_twins-requires : goal.are_twins-requires
-are_twins-requires c =
-    let pre = (c.requires.spans, c.requires.telling) in
-    paired _ _ _ _ _ _ _ pre.0 pre.1 c.pairs-test.true c.loop-j-test.true
+are_twins-requires c = paired _ _ _ _ _ _ _ c.requires.spans c.requires.telling c.pairs-test.true c.loop-j-test.true
 
 pub loop-j-preserved : goal.loop-j-preserved
 loop-j-preserved c =

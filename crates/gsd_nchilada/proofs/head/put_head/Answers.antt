@@ -13,8 +13,5 @@ float_to_bits-time c = c.requires.number
 pub returns : goal.returns
 unfolding be_bytes
 returns c =
-    let put-be32 = c.put_be32 in
-    let put-be64 = c.put_be64 in
-    let put-shape = c.put_shape in
-    store-more _ _ _ 0 12 _ _ (store-more _ _ _ 0 4 _ _ put-be32.ensures refl put-be64.ensures) refl put-shape.ensures
+    store-more _ _ _ 0 12 _ _ (store-more _ _ _ 0 4 _ _ c.put_be32.ensures refl c.put_be64.ensures) refl c.put_shape.ensures
     ∙ ap (stored _ 0) (head-parts _ _)

@@ -7,8 +7,4 @@ use Rattle.gsd_nchilada.proofs.head.put_shape.Goals as goal
 
 pub returns : goal.returns
 unfolding be_bytes
-returns c =
-    let put-be64 = c.put_be64 in
-    let put-be32 = c.put_be32 in
-    let put-be322 = c.put_be32-2 in
-    store-more _ _ _ 12 24 _ _ (store-more _ _ _ 12 20 _ _ put-be64.ensures refl put-be32.ensures) refl put-be322.ensures
+returns c = store-more _ _ _ 12 24 _ _ (store-more _ _ _ 12 20 _ _ c.put_be64.ensures refl c.put_be32.ensures) refl c.put_be32-2.ensures

@@ -19,12 +19,7 @@ returns-then-e-eq-FLOAT c = nan-of-type _ 9 _ _ _ _ c.if-e-eq-FLOAT.true c.any_n
 
 pub any_nan64-requires : goal.any_nan64-requires
 unfolding size_of
-any_nan64-requires c =
-    let if1 = c.if-e-eq-FLOAT in
-    omega (arith, of_size _ _ c.requires.held 10 (second-of _ 9 10 c.requires.typed if1.false))
+any_nan64-requires c = omega (arith, of_size _ _ c.requires.held 10 (second-of _ 9 10 c.requires.typed c.if-e-eq-FLOAT.false))
 
 pub returns : goal.returns
-returns c =
-    let if1 = c.if-e-eq-FLOAT in
-    let any-nan64 = c.any_nan64 in
-    nan-of-type _ 10 _ _ _ _ (second-of _ 9 10 c.requires.typed if1.false) any-nan64.ensures
+returns c = nan-of-type _ 10 _ _ _ _ (second-of _ 9 10 c.requires.typed c.if-e-eq-FLOAT.false) c.any_nan64.ensures

@@ -13,14 +13,10 @@ pub overflow_mul-result : goal.overflow_mul-result
 overflow_mul-result c = omega (arith, short-rows c.args.e.n c.args.e.m c.requires.rows c.requires.columns)
 
 pub overflow_mul-result-2 : goal.overflow_mul-result-2
-overflow_mul-result-2 c =
-    let type_size = c.size_of in
-    omega (arith, short-file c.args.e.n c.args.e.m type_size.result c.requires.rows c.requires.columns type_size.ensures.1)
+overflow_mul-result-2 c = omega (arith, short-file c.args.e.n c.args.e.m c.size_of.result c.requires.rows c.requires.columns c.size_of.ensures.bound)
 
 pub overflow_add-result-2 : goal.overflow_add-result-2
-overflow_add-result-2 c =
-    let type_size = c.size_of in
-    omega (arith, short-file c.args.e.n c.args.e.m type_size.result c.requires.rows c.requires.columns type_size.ensures.1)
+overflow_add-result-2 c = omega (arith, short-file c.args.e.n c.args.e.m c.size_of.result c.requires.rows c.requires.columns c.size_of.ensures.bound)
 
 pub returns : goal.returns
 returns c = ap (λ s. 28 + (2 + c.args.e.n) * c.args.e.m * s) c.size_of.ensures.answer

@@ -18,12 +18,8 @@ returns-then-e-eq-FLOAT c = body-as _ 9 _ _ _ _ _ _ _ c.if-e-eq-FLOAT.true refl 
 pub put_body64-requires : goal.put_body64-requires
 unfolding size_of
 put_body64-requires c =
-    let if1 = c.if-e-eq-FLOAT in
-    let said = ready-as _ _ _ c.requires 10 (second-of _ 9 10 c.requires.typed if1.false) in
+    let said = ready-as _ _ _ c.requires 10 (second-of _ 9 10 c.requires.typed c.if-e-eq-FLOAT.false) in
     record { some = said.0; columns = said.1.0; from = said.1.1.0; numbers = said.1.1.1.0; to = said.1.1.1.1 }
 
 pub returns : goal.returns
-returns c =
-    let if1 = c.if-e-eq-FLOAT in
-    let put-body64 = c.put_body64 in
-    body-as _ 10 _ _ _ _ _ _ _ (second-of _ 9 10 c.requires.typed if1.false) refl put-body64.ensures
+returns c = body-as _ 10 _ _ _ _ _ _ _ (second-of _ 9 10 c.requires.typed c.if-e-eq-FLOAT.false) refl c.put_body64.ensures

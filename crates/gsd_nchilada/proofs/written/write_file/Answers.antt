@@ -17,29 +17,16 @@ pub returns-then-number-ne0 : goal.returns-then-number-ne0
 returns-then-number-ne0 c = record { number = c.file_number-number.ensures; file = not-accepted _ _ _ _ c.file_number-number.ensures c.if-number-ne0.true }
 
 pub put_head-requires : goal.put_head-requires
-put_head-requires c =
-    let time-of = c.time_of-time in
-    let file-number = c.file_number-number in
-    let if1 = c.if-number-ne0 in
-    record { inside = omega (arith, (is-ready _ _ _ _ c.requires.held (sym file-number.ensures ∙ if1.false)).0.long); number = finite_number _ (ap finite time-of.ensures ∙ (is-ready _ _ _ _ c.requires.held (sym file-number.ensures ∙ if1.false)).1) }
+put_head-requires c = record { inside = omega (arith, (is-ready _ _ _ _ c.requires.held (sym c.file_number-number.ensures ∙ c.if-number-ne0.false)).0.long); number = finite_number _ (ap finite c.time_of-time.ensures ∙ (is-ready _ _ _ _ c.requires.held (sym c.file_number-number.ensures ∙ c.if-number-ne0.false)).1) }
 
 pub put_body-requires : goal.put_body-requires
-put_body-requires c =
-    let file-number = c.file_number-number in
-    let if1 = c.if-number-ne0 in
-    let put-head = c.put_head in
-    ready-room _ _ _ _ (is-ready _ _ _ _ c.requires.held (sym file-number.ensures ∙ if1.false)).0 (ap length put-head.ensures ∙ stored-length _ _ _)
+put_body-requires c = ready-room _ _ _ _ (is-ready _ _ _ _ c.requires.held (sym c.file_number-number.ensures ∙ c.if-number-ne0.false)).0 (ap length c.put_head.ensures ∙ stored-length _ _ _)
 
 pub returns : goal.returns
 returns c =
-    let time-of = c.time_of-time in
-    let file-number = c.file_number-number in
-    let if1 = c.if-number-ne0 in
-    let put-head = c.put_head in
-    let put-body = c.put_body in
     record {
-      number = sym if1.false ∙ file-number.ensures;
-      file = was-accepted _ _ _ _ (sym if1.false ∙ file-number.ensures)
-          (file-written _ _ _ _ _ _ _ time-of.ensures (is-ready _ _ _ _ c.requires.held (sym file-number.ensures ∙ if1.false)).0.long
-          put-head.ensures put-body.ensures);
+      number = sym c.if-number-ne0.false ∙ c.file_number-number.ensures;
+      file = was-accepted _ _ _ _ (sym c.if-number-ne0.false ∙ c.file_number-number.ensures)
+          (file-written _ _ _ _ _ _ _ c.time_of-time.ensures (is-ready _ _ _ _ c.requires.held (sym c.file_number-number.ensures ∙ c.if-number-ne0.false)).0.long
+          c.put_head.ensures c.put_body.ensures);
     }

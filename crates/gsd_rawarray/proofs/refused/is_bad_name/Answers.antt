@@ -16,8 +16,5 @@ returns-then-name-gt-LONGEST_NAME c = bad-long c.args.name.now c.if-name-gt-LONG
 
 pub returns : goal.returns
 returns c =
-    let if1 = c.if-name-eq0 in
-    let if2 = c.if-name-gt-LONGEST_NAME in
-    let has-zero = c.has_zero in
     let n : length c.args.name.now - 0 ≡ length c.args.name.now = omega arith in
-    has-zero.ensures ∙ ap (zero_in c.args.name.now 0) n ∙ bad-zero c.args.name.now if1.false if2.false
+    c.has_zero.ensures ∙ ap (zero_in c.args.name.now 0) n ∙ bad-zero c.args.name.now c.if-name-eq0.false c.if-name-gt-LONGEST_NAME.false

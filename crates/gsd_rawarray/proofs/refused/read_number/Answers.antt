@@ -9,47 +9,20 @@ pub returns-then-number-ne0 : goal.returns-then-number-ne0
 returns-then-number-ne0 c = gives-file _ _ _ _ c.file_number-number.ensures c.if-number-ne0.true
 
 pub returns-then-is_bad_name : goal.returns-then-is_bad_name
-returns-then-is_bad_name c =
-    let file-number = c.file_number-number in
-    let if1 = c.if-number-ne0 in
-    let is-bad-name = c.is_bad_name in
-    let if2 = c.if-is_bad_name in
-    gives-78 _ _ _ (sym file-number.ensures ∙ if1.false) (sym is-bad-name.ensures ∙ if2.true)
+returns-then-is_bad_name c = gives-78 _ _ _ (sym c.file_number-number.ensures ∙ c.if-number-ne0.false) (sym c.is_bad_name.ensures ∙ c.if-is_bad_name.true)
 
 pub returns-then-room-front : goal.returns-then-room-front
-returns-then-room-front c =
-    let file-number = c.file_number-number in
-    let if1 = c.if-number-ne0 in
-    let is-bad-name = c.is_bad_name in
-    let if2 = c.if-is_bad_name in
-    let if3 = c.if-room-front in
-    gives-79 _ _ _ (sym file-number.ensures ∙ if1.false) (sym is-bad-name.ensures ∙ if2.false) (λ e. omega (arith, if3.true, e))
+returns-then-room-front c = gives-79 _ _ _ (sym c.file_number-number.ensures ∙ c.if-number-ne0.false) (sym c.is_bad_name.ensures ∙ c.if-is_bad_name.false) (λ e. omega (arith, c.if-room-front.true, e))
 
 pub data_length-requires : goal.data_length-requires
-data_length-requires c =
-    let file-number = c.file_number-number in
-    let if1 = c.if-number-ne0 in
-    (file-passed _ (sym file-number.ensures ∙ if1.false)).dims
+data_length-requires c = (file-passed _ (sym c.file_number-number.ensures ∙ c.if-number-ne0.false)).dims
 
 pub returns-then-room-front-2 : goal.returns-then-room-front-2
 returns-then-room-front-2 c =
-    let file-number = c.file_number-number in
-    let if1 = c.if-number-ne0 in
-    let is-bad-name = c.is_bad_name in
-    let if2 = c.if-is_bad_name in
-    let data-length = c.data_length in
-    let if4 = c.if-room-front-2 in
-    gives-79 _ _ _ (sym file-number.ensures ∙ if1.false) (sym is-bad-name.ensures ∙ if2.false)
-    (λ e. if4.true (omega (arith, data-length.ensures, e)))
+    gives-79 _ _ _ (sym c.file_number-number.ensures ∙ c.if-number-ne0.false) (sym c.is_bad_name.ensures ∙ c.if-is_bad_name.false)
+    (λ e. c.if-room-front-2.true (omega (arith, c.data_length.ensures, e)))
 
 pub returns : goal.returns
 returns c =
-    let file-number = c.file_number-number in
-    let if1 = c.if-number-ne0 in
-    let is-bad-name = c.is_bad_name in
-    let if2 = c.if-is_bad_name in
-    let if3 = c.if-room-front in
-    let data-length = c.data_length in
-    let if4 = c.if-room-front-2 in
-    gives_none _ _ _ (sym file-number.ensures ∙ if1.false) (sym is-bad-name.ensures ∙ if2.false)
-    (omega (arith, data-length.ensures, if3.false, if4.false))
+    gives_none _ _ _ (sym c.file_number-number.ensures ∙ c.if-number-ne0.false) (sym c.is_bad_name.ensures ∙ c.if-is_bad_name.false)
+    (omega (arith, c.data_length.ensures, c.if-room-front.false, c.if-room-front-2.false))

@@ -23,18 +23,11 @@ put_text-requires c = omega (arith, (request-passed _ _ _ c.requires).exact)
 
 pub copy_part-requires : goal.copy_part-requires
 copy_part-requires c =
-    let data-start = c.data_start-start in
-    let data-length = c.data_length-size in
     let passed = request-passed _ _ _ c.requires in
-    record { there = omega (arith, data-inside _ passed.file.whole, data-start.ensures, data-length.ensures); inside = omega (arith, passed.exact, data-length.ensures) }
+    record { there = omega (arith, data-inside _ passed.file.whole, c.data_start-start.ensures, c.data_length-size.ensures); inside = omega (arith, passed.exact, c.data_length-size.ensures) }
 
 pub returns : goal.returns
 returns c =
-    let data-start = c.data_start-start in
-    let data-length = c.data_length-size in
-    let put-table = c.put_table in
-    let put-text = c.put_text in
-    let copy-part = c.copy_part in
     let passed = request-passed _ _ _ c.requires in
-    sheet-written _ _ _ _ _ _ passed.file.whole passed.exact put-table.ensures put-text.ensures
-    (copy-part.ensures ∙ ap (stored _ _) (data-part _ _ _ data-start.ensures data-length.ensures))
+    sheet-written _ _ _ _ _ _ passed.file.whole passed.exact c.put_table.ensures c.put_text.ensures
+    (c.copy_part.ensures ∙ ap (stored _ _) (data-part _ _ _ c.data_start-start.ensures c.data_length-size.ensures))

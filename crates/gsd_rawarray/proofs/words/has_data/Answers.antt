@@ -11,11 +11,4 @@ pub u64_at-requires : goal.u64_at-requires
 u64_at-requires c = omega (arith, long _ c.requires)
 
 pub returns : goal.returns
-returns c =
-    let data-length = c.data_length-size in
-    let data-start = c.data_start in
-    let rows_in = c.rows_in in
-    let columns-in = c.columns_in in
-    let u64-at = c.u64_at in
-    let is-product = c.is_product in
-    data-told _ c.requires _ _ _ _ _ _ data-length.ensures data-start.ensures rows_in.ensures columns-in.ensures u64-at.ensures is-product.ensures
+returns c = data-told _ c.requires _ _ _ _ _ _ c.data_length-size.ensures c.data_start.ensures c.rows_in.ensures c.columns_in.ensures c.u64_at.ensures c.is_product.ensures

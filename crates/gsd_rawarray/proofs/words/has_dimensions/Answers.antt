@@ -11,8 +11,4 @@ pub returns-then-count-eq2 : goal.returns-then-count-eq2
 returns-then-count-eq2 c = dims-two _ (sym c.u64_at-count.ensures ∙ c.if-count-eq2.true)
 
 pub returns : goal.returns
-returns c =
-    let u64-at = c.u64_at-count in
-    let if1 = c.if-count-eq1 in
-    let if2 = c.if-count-eq2 in
-    dims-none _ (λ e. if1.false (u64-at.ensures ∙ e)) (λ e. if2.false (u64-at.ensures ∙ e))
+returns c = dims-none _ (λ e. c.if-count-eq1.false (c.u64_at-count.ensures ∙ e)) (λ e. c.if-count-eq2.false (c.u64_at-count.ensures ∙ e))

@@ -8,24 +8,15 @@ use Rattle.gsd_rawarray.proofs.words.kind_of.Goals as goal
 
 pub returns-then-raw-eq2 : goal.returns-then-raw-eq2
 unfolding types_of
-returns-then-raw-eq2 c =
-    let if1 = c.if-raw-eq2 in
-    let of_width = c.of_width in
-    of_width.ensures ∙ ap (λ t. get_or (types_of t) c.args.width 0) (sym if1.true)
+returns-then-raw-eq2 c = c.of_width.ensures ∙ ap (λ t. get_or (types_of t) c.args.width 0) (sym c.if-raw-eq2.true)
 
 pub returns-then-raw-eq1 : goal.returns-then-raw-eq1
 unfolding types_of
-returns-then-raw-eq1 c =
-    let if2 = c.if-raw-eq1 in
-    let of-width2 = c.of_width-then-raw-eq1 in
-    of-width2.ensures ∙ ap (λ t. get_or (types_of t) c.args.width 0) (sym if2.true)
+returns-then-raw-eq1 c = c.of_width-then-raw-eq1.ensures ∙ ap (λ t. get_or (types_of t) c.args.width 0) (sym c.if-raw-eq1.true)
 
 pub returns-then-raw-eq3 : goal.returns-then-raw-eq3
 unfolding types_of
-returns-then-raw-eq3 c =
-    let if3 = c.if-raw-eq3 in
-    let of-width3 = c.of_width-then-raw-eq3 in
-    of-width3.ensures ∙ ap (λ t. get_or (types_of t) c.args.width 0) (sym if3.true)
+returns-then-raw-eq3 c = c.of_width-then-raw-eq3.ensures ∙ ap (λ t. get_or (types_of t) c.args.width 0) (sym c.if-raw-eq3.true)
 
 pub returns : goal.returns
 returns c = sym (other-type _ _ c.if-raw-eq2.false c.if-raw-eq1.false c.if-raw-eq3.false)

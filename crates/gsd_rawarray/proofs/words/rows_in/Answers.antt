@@ -14,10 +14,7 @@ pub returns-then-u64_at-eq1 : goal.returns-then-u64_at-eq1
 returns-then-u64_at-eq1 c = c.u64_at-first.ensures ∙ n-one _ (sym c.u64_at.ensures ∙ c.if-u64_at-eq1.true)
 
 pub u64_at-requires-2 : goal.u64_at-requires-2
-u64_at-requires-2 c =
-    let u64-at2 = c.u64_at in
-    let if1 = c.if-u64_at-eq1 in
-    omega (arith, longer _ c.requires (λ e. if1.false (u64-at2.ensures ∙ e)))
+u64_at-requires-2 c = omega (arith, longer _ c.requires (λ e. c.if-u64_at-eq1.false (c.u64_at.ensures ∙ e)))
 
 pub returns : goal.returns
 returns c = c.u64_at-2.ensures ∙ n-two _ (λ e. c.if-u64_at-eq1.false (c.u64_at.ensures ∙ e))

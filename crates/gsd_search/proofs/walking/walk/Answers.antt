@@ -21,15 +21,13 @@ probe-e-requires c =
 pub returns-then-e-q : goal.returns-then-e-q
 returns-then-e-q c =
     let ends = ahead-end _ c.args.q _ c.requires.there _ c.walk_end-end.ensures in
-    let probe = (c.probe-e.ensures.value, c.probe-e.ensures.counted) in
-    let said = walking-other _ _ _ _ _ _ c.loop-i.invariant (omega (arith, c.loop-i-test.true, ends)) _ probe.0 _ probe.1 c.if-e-q.true in
+    let said = walking-other _ _ _ _ _ _ c.loop-i.invariant (omega (arith, c.loop-i-test.true, ends)) _ c.probe-e.ensures.value _ c.probe-e.ensures.counted c.if-e-q.true in
     record { value = said.0; counted = said.1 }
 
 pub returns-then-e-q-2 : goal.returns-then-e-q-2
 returns-then-e-q-2 c =
     let ends = ahead-end _ c.args.q _ c.requires.there _ c.walk_end-end.ensures in
-    let probe = (c.probe-e.ensures.value, c.probe-e.ensures.counted) in
-    let said = walking-found _ _ _ _ _ _ c.loop-i.invariant (omega (arith, c.loop-i-test.true, ends)) _ probe.0 _ probe.1 c.if-e-q.false c.if-e-q-2.true in
+    let said = walking-found _ _ _ _ _ _ c.loop-i.invariant (omega (arith, c.loop-i-test.true, ends)) _ c.probe-e.ensures.value _ c.probe-e.ensures.counted c.if-e-q.false c.if-e-q-2.true in
     record { value = said.0; counted = said.1 }
 
 pub overflow_add-i : goal.overflow_add-i
@@ -43,8 +41,7 @@ loop-i-smaller c = omega arith
 pub loop-i-preserved : goal.loop-i-preserved
 loop-i-preserved c =
     let ends = ahead-end _ c.args.q _ c.requires.there _ c.walk_end-end.ensures in
-    let probe = (c.probe-e.ensures.value, c.probe-e.ensures.counted) in
-    walking_on _ _ _ _ _ _ c.loop-i.invariant (omega (arith, c.loop-i-test.true, ends)) _ probe.0 _ probe.1 c.if-e-q.false c.if-e-q-2.false
+    walking_on _ _ _ _ _ _ c.loop-i.invariant (omega (arith, c.loop-i-test.true, ends)) _ c.probe-e.ensures.value _ c.probe-e.ensures.counted c.if-e-q.false c.if-e-q-2.false
 
 pub returns : goal.returns
 returns c =

@@ -19,20 +19,16 @@ pub overflow_add-to : goal.overflow_add-to
 overflow_add-to c = omega (arith, c.requires, fields-length c.args.numbers.now c.loop-i.i c.loop-i-test.true)
 
 pub decimal-to-requires : goal.decimal-to-requires
-decimal-to-requires c =
-    let l = c.loop-i in
-    omega (arith, c.requires, l.invariant.1, l.invariant.3, length-set l.out l.to 32, fields-length c.args.numbers.now l.i c.loop-i-test.true)
+decimal-to-requires c = omega (arith, c.requires, c.loop-i.invariant.1, c.loop-i.invariant.3, length-set c.loop-i.out c.loop-i.to 32, fields-length c.args.numbers.now c.loop-i.i c.loop-i-test.true)
 
 pub loop-i-preserved : goal.loop-i-preserved
 loop-i-preserved c =
     let ns = c.args.numbers.now in
-    let l = c.loop-i in
-    let h = c.loop-i-test.true in
-    let d = c.decimal-to in (
+    let h = c.loop-i-test.true in (
       search rules,
-      d.auto.0 ∙ length-set l.out l.to 32 ∙ l.invariant.1,
-      rw (d.ensures.0, d.ensures.1) (sym (fields-stored l.out l.to ns l.i h) ∙ l.invariant.2),
-      omega (arith, d.ensures.1, l.invariant.3, fields-length ns l.i h),
+      c.decimal-to.auto.0 ∙ length-set c.loop-i.out c.loop-i.to 32 ∙ c.loop-i.invariant.1,
+      rw (c.decimal-to.ensures.text, c.decimal-to.ensures.answer) (sym (fields-stored c.loop-i.out c.loop-i.to ns c.loop-i.i h) ∙ c.loop-i.invariant.2),
+      omega (arith, c.decimal-to.ensures.answer, c.loop-i.invariant.3, fields-length ns c.loop-i.i h),
     )
 
 pub bounds-out-to-2 : goal.bounds-out-to-2

@@ -18,12 +18,10 @@ decimal-requires c =
 pub returns : goal.returns
 returns c =
     let x = c.args in
-    let p = c.put_text in
-    let d = c.decimal in
     let at = x.at + length x.label.now in
     let digits = decimal-long x.n (omega arith) in
     record {
-      text = stored-front p.new.0 at (decimal x.n) d.new.0 d.result d.ensures.0 d.ensures.1 (omega (arith, p.auto.0))
-          ∙ ap (λ s. s ++ decimal x.n) (stored-front x.out.now x.at x.label.now p.new.0 at p.ensures refl (omega arith));
-      bound = omega (arith, d.ensures.1);
+      text = stored-front c.put_text.new.0 at (decimal x.n) c.decimal.new.0 c.decimal.result c.decimal.ensures.text c.decimal.ensures.answer (omega (arith, c.put_text.auto.0))
+          ∙ ap (λ s. s ++ decimal x.n) (stored-front x.out.now x.at x.label.now c.put_text.new.0 at c.put_text.ensures refl (omega arith));
+      bound = omega (arith, c.decimal.ensures.answer);
     }

@@ -41,10 +41,9 @@ shape_of-image-then-w-x c =
 pub returns-then-w-x : goal.returns-then-w-x
 returns-then-w-x c =
     let told = c.loop-r.invariant in
-    let made = (c.some_stores-n.ensures.answer, c.some_stores-n.ensures.image) in
     let here = c.extent_at-x.ensures in
     let inside = c.loop-r-test.true in
-    rw made.1 (turn-stop (extent-made told here (omega (arith, inside)) _ made.0) (omega (arith, made.0, c.if-w-x.true)))
+    rw c.some_stores-n.ensures.image (turn-stop (extent-made told here (omega (arith, inside)) _ c.some_stores-n.ensures.answer) (omega (arith, c.some_stores-n.ensures.answer, c.if-w-x.true)))
 
 pub overflow_add-r : goal.overflow_add-r
 overflow_add-r c =
@@ -54,10 +53,9 @@ overflow_add-r c =
 pub loop-r-preserved : goal.loop-r-preserved
 loop-r-preserved c =
     let told = c.loop-r.invariant in
-    let made = (c.some_stores-n.ensures.answer, c.some_stores-n.ensures.image) in
     let here = c.extent_at-x.ensures in
     let inside = c.loop-r-test.true in
-    rw made.1 (extent-over (extent-made told here (omega (arith, inside)) _ made.0) here (omega (arith, inside)) c.if-w-x.false)
+    rw c.some_stores-n.ensures.image (extent-over (extent-made told here (omega (arith, inside)) _ c.some_stores-n.ensures.answer) here (omega (arith, inside)) c.if-w-x.false)
 
 pub shape_of-image : goal.shape_of-image
 shape_of-image c = c.loop-r.invariant.long

@@ -22,7 +22,6 @@ carry_on-made-requires c =
 pub returns : goal.returns
 returns c =
     let x = c.args in
-    let went = (c.carry_on-made.ensures.made, c.carry_on-made.ensures.image, c.carry_on-made.ensures.words) in
     let fit = sym c.fits.ensures ∙ not-false _ c.if-not-fits.false in
-    let said = turn-carried x.self x.image.now x.sheet.now x.limit _ _ _ fit went.0 went.1.0 went.1.1 in
+    let said = turn-carried x.self x.image.now x.sheet.now x.limit _ _ _ fit c.carry_on-made.ensures.made c.carry_on-made.ensures.image c.carry_on-made.ensures.words in
     record { answer = said.0; image = said.1 }

@@ -21,11 +21,4 @@ f64_at-requires-3-clause-number c = number_at 10 8 refl _ _ _ (omega arith) (c.r
 
 pub returns : goal.returns
 unfolding size_of
-returns c =
-    let f64-at = c.f64_at in
-    let of = c.of in
-    let f64-at2 = c.f64_at-2 in
-    let of2 = c.of-2 in
-    let f64-at3 = c.f64_at-3 in
-    let of3 = c.of-3 in
-    record { x = extremes-one _ _ _ _ (value-at 10 8 refl _ _ _ _ (omega arith) f64-at.ensures) of.ensures.0 of.ensures.1; y = extremes-one _ _ _ _ (value-at 10 8 refl _ _ _ _ (omega arith) f64-at2.ensures) of2.ensures.0 of2.ensures.1; z = extremes-one _ _ _ _ (value-at 10 8 refl _ _ _ _ (omega arith) f64-at3.ensures) of3.ensures.0 of3.ensures.1 }
+returns c = record { x = extremes-one _ _ _ _ (value-at 10 8 refl _ _ _ _ (omega arith) c.f64_at.ensures) c.of.ensures.smallest c.of.ensures.largest; y = extremes-one _ _ _ _ (value-at 10 8 refl _ _ _ _ (omega arith) c.f64_at-2.ensures) c.of-2.ensures.smallest c.of-2.ensures.largest; z = extremes-one _ _ _ _ (value-at 10 8 refl _ _ _ _ (omega arith) c.f64_at-3.ensures) c.of-3.ensures.smallest c.of-3.ensures.largest }

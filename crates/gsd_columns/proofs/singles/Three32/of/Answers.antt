@@ -21,11 +21,4 @@ f32_at-requires-3-clause-number c = number_at 9 4 refl _ _ _ (omega arith) (c.re
 
 pub returns : goal.returns
 unfolding size_of
-returns c =
-    let f32-at = c.f32_at in
-    let of = c.of in
-    let f32-at2 = c.f32_at-2 in
-    let of2 = c.of-2 in
-    let f32-at3 = c.f32_at-3 in
-    let of3 = c.of-3 in
-    record { x = extremes-one _ _ _ _ (value-at 9 4 refl _ _ _ _ (omega arith) f32-at.ensures) of.ensures.0 of.ensures.1; y = extremes-one _ _ _ _ (value-at 9 4 refl _ _ _ _ (omega arith) f32-at2.ensures) of2.ensures.0 of2.ensures.1; z = extremes-one _ _ _ _ (value-at 9 4 refl _ _ _ _ (omega arith) f32-at3.ensures) of3.ensures.0 of3.ensures.1 }
+returns c = record { x = extremes-one _ _ _ _ (value-at 9 4 refl _ _ _ _ (omega arith) c.f32_at.ensures) c.of.ensures.smallest c.of.ensures.largest; y = extremes-one _ _ _ _ (value-at 9 4 refl _ _ _ _ (omega arith) c.f32_at-2.ensures) c.of-2.ensures.smallest c.of-2.ensures.largest; z = extremes-one _ _ _ _ (value-at 9 4 refl _ _ _ _ (omega arith) c.f32_at-3.ensures) c.of-3.ensures.smallest c.of-3.ensures.largest }
