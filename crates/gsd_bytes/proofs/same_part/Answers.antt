@@ -1,6 +1,5 @@
 -- `gsd_bytes::same_part` meets its contract: the words, and then the bytes left over.
 use Rattle.std.proofs.Common.{◌≡◌, ℕ, ◌+◌, ◌*◌, ◌/◌, ◌%◌, ◌≤◌, true, false, ◌&&◌, List, length, sym, ap, ◌∙◌, arith, rules}
-use borrow.Author.Tests.{not-true, not-false}
 use Rattle.gsd_format.specs.Bytes.{part, same}
 use Rattle.gsd_format.proofs.Bytes.{same-halves}
 use Rattle.gsd_bytes.proofs.same_part.Goals as goal
@@ -17,12 +16,12 @@ pub returns-then-not-same_words : goal.returns-then-not-same_words
 returns-then-not-same_words c =
     let x = c.args in
     let words : same (part x.a.now x.ai (8 * (x.n / 8))) (part x.b.now x.bi (8 * (x.n / 8))) ≡ false =
-    sym c.same_words.ensures ∙ not-true _ c.if-not-same_words.true in
+    sym c.same_words.ensures ∙ c.if-not-same_words.true in
     sym (halves x.a.now x.ai x.b.now x.bi x.n (omega arith) (omega arith) ∙ rw words)
 
 pub returns : goal.returns
 returns c =
     let x = c.args in
     let words : same (part x.a.now x.ai (8 * (x.n / 8))) (part x.b.now x.bi (8 * (x.n / 8))) ≡ true =
-    sym c.same_words.ensures ∙ not-false _ c.if-not-same_words.false in
+    sym c.same_words.ensures ∙ c.if-not-same_words.false in
     c.same_bytes.ensures ∙ sym (halves x.a.now x.ai x.b.now x.bi x.n (omega arith) (omega arith) ∙ rw words)

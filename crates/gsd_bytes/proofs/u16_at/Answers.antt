@@ -3,5 +3,5 @@ use Rattle.std.proofs.Common.{rules}
 use Rattle.gsd_format.proofs.Bytes.{le-two}
 use Rattle.gsd_bytes.proofs.u16_at.Goals as goal
 
-pub returns : goal.returns
-returns c = record { answer = rw le-two (search rules); bound = rw le-two (search rules) }
+pub returns-clause-answer : goal.returns-clause-answer
+returns-clause-answer c = rw le-two (search rules)

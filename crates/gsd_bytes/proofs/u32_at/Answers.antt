@@ -3,5 +3,5 @@ use Rattle.std.proofs.Common.{rules}
 use Rattle.gsd_format.proofs.Bytes.{le_four}
 use Rattle.gsd_bytes.proofs.u32_at.Goals as goal
 
-pub returns : goal.returns
-returns c = record { answer = rw le_four (search rules); bound = rw le_four (search rules) }
+pub returns-clause-answer : goal.returns-clause-answer
+returns-clause-answer c = rw le_four (search rules)
