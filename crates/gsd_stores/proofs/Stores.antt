@@ -339,6 +339,7 @@ words-keep img t base n p (a ∷ l) m e g = words-keep x t base n p l (omega (ar
 pub words-on : (img t : List ℕ) (base n p : ℕ) (l : List ℕ) → n ≤ length img → Within base n l → {a : ℕ} → Member a l → a ≤ p → p < a + 8 →
     get_or (after img (words t base l)) p 0 ≡ get_or t (p - base) 0
 unfolding after words
+words-on img t base n p [] m e {a = a} x6 x y = elim x6 [ ]
 words-on img t base n p (b ∷ l) m e (here q) x y =
     words-keep (stored img b (eight_of t (b - base))) t base n p l (omega (arith, stored-length img b (eight_of t (b - base)))) e.1
     ((word_over img t base b e.0.0 (omega (arith, e.0.1))).inside p (omega arith) (omega arith))

@@ -18,7 +18,7 @@ returns-then-kind-le-UINT64 c =
 pub returns-then-kind-le-INT64 : goal.returns-then-kind-le-INT64
 returns-then-kind-le-INT64 c =
     let args = c.args in
-    let number = (c.signed_of-number.ensures.answer) ∙ sym (signed_is (size_of args.kind) args.bits c.half_of.result (sym c.half_of.ensures.halves)) in
+    let number = c.signed_of-number.ensures.answer ∙ sym (signed_is (size_of args.kind) args.bits c.half_of.result (sym c.half_of.ensures.halves)) in
     let said = ap Element.Signed (to_z-of_z {w = w64} {z = c.signed_of-number.result} (search rules) ∙ number)
     ∙ sym (element-signed args.kind args.bits (omega arith) (omega arith)) in
     record { answer = said }
@@ -32,12 +32,12 @@ overflow_cast-pattern c =
 pub returns-then-kind-eq-FLOAT : goal.returns-then-kind-eq-FLOAT
 returns-then-kind-eq-FLOAT c =
     let bits = c.args.bits in
-    record { answer = rw c.if-kind-eq-FLOAT.true (ap (λ v. Element.Single v bits) (c.single-value.ensures.answer) ∙ sym (element-single bits)) }
+    record { answer = rw c.if-kind-eq-FLOAT.true (ap (λ v. Element.Single v bits) c.single-value.ensures.answer ∙ sym (element-single bits)) }
 
 pub returns-then-kind-eq-DOUBLE : goal.returns-then-kind-eq-DOUBLE
 returns-then-kind-eq-DOUBLE c =
     let bits = c.args.bits in
-    record { answer = rw c.if-kind-eq-DOUBLE.true (ap (λ v. Element.Double v bits) (c.double-value.ensures.answer) ∙ sym (element-double bits)) }
+    record { answer = rw c.if-kind-eq-DOUBLE.true (ap (λ v. Element.Double v bits) c.double-value.ensures.answer ∙ sym (element-double bits)) }
 
 -- what is left is type 11
 pub returns : goal.returns

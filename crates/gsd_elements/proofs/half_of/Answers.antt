@@ -1,23 +1,40 @@
 -- The table of the signed types' sizes.
-use mathlib.Core.Path.{◌≡◌}
-use native.Mathlib.Omega.{arith}
+use Rattle.std.proofs.Common.{◌≡◌, arith}
 use Rattle.gsd_format.specs.Types.{size_of}
 use Rattle.gsd_elements.proofs.half_of.Goals as goal
 
-pub returns-then-kind-eq-INT8 : goal.returns-then-kind-eq-INT8
+pub returns-then-kind-eq-INT8-clause-answer : goal.returns-then-kind-eq-INT8-clause-answer
 unfolding size_of
-returns-then-kind-eq-INT8 c = record { answer = rw c.if-kind-eq-INT8.true (omega arith); positive = rw c.if-kind-eq-INT8.true (omega arith); bound = rw c.if-kind-eq-INT8.true (omega arith); halves = rw c.if-kind-eq-INT8.true (omega arith) }
+returns-then-kind-eq-INT8-clause-answer c = rw c.if-kind-eq-INT8.true (omega arith)
 
-pub returns-then-kind-eq-INT16 : goal.returns-then-kind-eq-INT16
+pub returns-then-kind-eq-INT8-clause-halves : goal.returns-then-kind-eq-INT8-clause-halves
 unfolding size_of
-returns-then-kind-eq-INT16 c = record { answer = rw c.if-kind-eq-INT16.true (omega arith); positive = rw c.if-kind-eq-INT16.true (omega arith); bound = rw c.if-kind-eq-INT16.true (omega arith); halves = rw c.if-kind-eq-INT16.true (omega arith) }
+returns-then-kind-eq-INT8-clause-halves c = rw c.if-kind-eq-INT8.true (omega arith)
 
-pub returns-then-kind-eq-INT32 : goal.returns-then-kind-eq-INT32
+pub returns-then-kind-eq-INT16-clause-answer : goal.returns-then-kind-eq-INT16-clause-answer
 unfolding size_of
-returns-then-kind-eq-INT32 c = record { answer = rw c.if-kind-eq-INT32.true (omega arith); positive = rw c.if-kind-eq-INT32.true (omega arith); bound = rw c.if-kind-eq-INT32.true (omega arith); halves = rw c.if-kind-eq-INT32.true (omega arith) }
+returns-then-kind-eq-INT16-clause-answer c = rw c.if-kind-eq-INT16.true (omega arith)
 
-pub returns : goal.returns
+pub returns-then-kind-eq-INT16-clause-halves : goal.returns-then-kind-eq-INT16-clause-halves
 unfolding size_of
-returns c =
+returns-then-kind-eq-INT16-clause-halves c = rw c.if-kind-eq-INT16.true (omega arith)
+
+pub returns-then-kind-eq-INT32-clause-answer : goal.returns-then-kind-eq-INT32-clause-answer
+unfolding size_of
+returns-then-kind-eq-INT32-clause-answer c = rw c.if-kind-eq-INT32.true (omega arith)
+
+pub returns-then-kind-eq-INT32-clause-halves : goal.returns-then-kind-eq-INT32-clause-halves
+unfolding size_of
+returns-then-kind-eq-INT32-clause-halves c = rw c.if-kind-eq-INT32.true (omega arith)
+
+pub returns-clause-answer : goal.returns-clause-answer
+unfolding size_of
+returns-clause-answer c =
     let e : c.args.kind ≡ 8 = omega arith in
-    record { answer = rw e (omega arith); positive = rw e (omega arith); bound = rw e (omega arith); halves = rw e (omega arith) }
+    rw e (omega arith)
+
+pub returns-clause-halves : goal.returns-clause-halves
+unfolding size_of
+returns-clause-halves c =
+    let e : c.args.kind ≡ 8 = omega arith in
+    rw e (omega arith)

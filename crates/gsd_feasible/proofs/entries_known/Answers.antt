@@ -13,10 +13,10 @@ pub loop-s-init : goal.loop-s-init
 loop-s-init c = (omega arith, all_none _)
 
 pub returns-then-not-entry_known : goal.returns-then-not-entry_known
-returns-then-not-entry_known c = sym (one-fails _ _ _ c.loop-s-test.true (sym c.entry_known.ensures ∙ not-true _ c.if-not-entry_known.true))
+returns-then-not-entry_known c = sym (one-fails _ _ _ c.loop-s-test.true (sym c.entry_known.ensures ∙ c.if-not-entry_known.true))
 
 pub loop-s-preserved : goal.loop-s-preserved
-loop-s-preserved c = (search rules, all_more _ _ c.loop-s.invariant.1 (sym c.entry_known.ensures ∙ not-false _ c.if-not-entry_known.false))
+loop-s-preserved c = (search rules, all_more _ _ c.loop-s.invariant.1 (sym c.entry_known.ensures ∙ c.if-not-entry_known.false))
 
 pub returns : goal.returns
 returns c = all_end _ _ _ c.loop-s.invariant.0 c.loop-s-test.false c.loop-s.invariant.1

@@ -19,13 +19,13 @@ loop-r-init c = (omega arith, all_none _)
 pub returns-then-not-keeps : goal.returns-then-not-keeps
 returns-then-not-keeps c =
     sym (one-fails _ _ _ c.loop-r-test.true
-    (ap (keeps_to _ _) (sym c.front_extent.ensures) ∙ sym c.keeps.ensures ∙ not-true _ c.if-not-keeps.true))
+    (ap (keeps_to _ _) (sym c.front_extent.ensures) ∙ sym c.keeps.ensures ∙ c.if-not-keeps.true))
 
 pub loop-r-preserved : goal.loop-r-preserved
 loop-r-preserved c = (
   search rules,
   all_more _ _ c.loop-r.invariant.1
-      (ap (keeps_to _ _) (sym c.front_extent.ensures) ∙ sym c.keeps.ensures ∙ not-false _ c.if-not-keeps.false),
+      (ap (keeps_to _ _) (sym c.front_extent.ensures) ∙ sym c.keeps.ensures ∙ c.if-not-keeps.false),
 )
 
 pub returns : goal.returns

@@ -14,4 +14,4 @@ returns c =
       c.put_filled.ensures,
       c.put_numbers.ensures,
     )
-    (lay-out x.image.now x.application.now x.schema.now x.schema-version x.slots x.segments c.requires.application c.requires.schema c.requires.fits)
+    (lay-out x.image.now x.application.now x.schema.now x.schema_version x.slots x.segments c.requires.application c.requires.schema c.requires.fits)

@@ -15,4 +15,4 @@ returns c =
       c.put_word-2.ensures,
       c.put_word.ensures,
       c.put_magic.ensures,
-    ) (put-numbers x.s.now x.schema-version x.slots x.segments)
+    ) (put-numbers x.s.now x.schema_version x.slots x.segments)

@@ -20,17 +20,17 @@ pub returns-then-not-is_feasible : goal.returns-then-not-is_feasible
 unfolding plan_in
 returns-then-not-is_feasible c =
     let x = c.args in
-    let not_so = sym c.is_feasible.ensures ∙ not-true _ c.if-not-is_feasible.true in
+    let not_so = sym c.is_feasible.ensures ∙ c.if-not-is_feasible.true in
     fits_not x.words.now x.image.now x.sheet.now (λ t. true≢false (sym t.plan ∙ not_so))
 
 pub same_header-requires : goal.same_header-requires
 unfolding plan_in
-same_header-requires c = record { long = c.requires; header = feasible-long _ _ _ (sym c.is_feasible.ensures ∙ not-false _ c.if-not-is_feasible.false) }
+same_header-requires c = record { long = c.requires; header = feasible-long _ _ _ (sym c.is_feasible.ensures ∙ c.if-not-is_feasible.false) }
 
 pub returns : goal.returns
 unfolding plan_in
 returns c =
     let x = c.args in
     let told : Told x.words.now x.image.now x.sheet.now
-    = record { image = c.if-words-image.false; rows = c.if-words-sheet.false; plan = sym c.is_feasible.ensures ∙ not-false _ c.if-not-is_feasible.false } in
+    = record { image = c.if-words-image.false; rows = c.if-words-sheet.false; plan = sym c.is_feasible.ensures ∙ c.if-not-is_feasible.false } in
     c.same_header.ensures ∙ sym (fits-header x.words.now x.image.now x.sheet.now told)

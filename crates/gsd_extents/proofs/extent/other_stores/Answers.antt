@@ -24,7 +24,7 @@ pub next_store-requires-clause-near : goal.next_store-requires-clause-near
 next_store-requires-clause-near c = λ _. c.near_count-f.ensures.near _ c.loop-i-test.true
 
 pub loop-i-preserved : goal.loop-i-preserved
-loop-i-preserved c = (search rules, rw (c.next_store.ensures.next) (made_more _ _ _ _ _ _ c.loop-i.invariant.1 _ _ (made_one _ _ _ _)))
+loop-i-preserved c = (search rules, rw c.next_store.ensures.next (made_more _ _ _ _ _ _ c.loop-i.invariant.1 _ _ (made_one _ _ _ _)))
 
 pub loop-i-2-init : goal.loop-i-2-init
 loop-i-2-init c = (search rules, made_none _ _ _ _)
@@ -42,7 +42,7 @@ next_store-requires-in-loop-i-2-clause-near c =
     λ t. absurd (true≢false (sym t))
 
 pub loop-i-2-preserved : goal.loop-i-2-preserved
-loop-i-2-preserved c = (search rules, rw (c.next_store-in-loop-i-2.ensures.next) (made_more _ _ _ _ _ _ c.loop-i-2.invariant.1 _ _ (made_one _ _ _ _)))
+loop-i-2-preserved c = (search rules, rw c.next_store-in-loop-i-2.ensures.next (made_more _ _ _ _ _ _ c.loop-i-2.invariant.1 _ _ (made_one _ _ _ _)))
 
 pub shape_of-image : goal.shape_of-image
 shape_of-image c = made-length _ _ _ _ _ _ c.loop-i-2.invariant.1 ∙ made-length _ _ _ _ _ _ c.loop-i.invariant.1

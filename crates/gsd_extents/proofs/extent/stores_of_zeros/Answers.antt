@@ -28,7 +28,7 @@ next_store-requires-clause-near c =
     λ _. record { known = omega arith; whole = λ l. absurd (omega arith) }
 
 pub loop-i-preserved : goal.loop-i-preserved
-loop-i-preserved c = (search rules, rw (c.next_store.ensures.next) (made_more _ _ _ _ _ _ c.loop-i.invariant.1 _ _ (made_one _ _ _ _)))
+loop-i-preserved c = (search rules, rw c.next_store.ensures.next (made_more _ _ _ _ _ _ c.loop-i.invariant.1 _ _ (made_one _ _ _ _)))
 
 pub shape_of-image : goal.shape_of-image
 shape_of-image c = made-length _ _ _ _ _ _ c.loop-i.invariant.1

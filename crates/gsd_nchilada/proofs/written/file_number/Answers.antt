@@ -11,36 +11,36 @@ use borrow.Author.Rules.{rules}
 use Rattle.gsd_nchilada.proofs.written.file_number.Goals as goal
 
 pub returns-then-not-writable : goal.returns-then-not-writable
-returns-then-not-writable c = gives-60 _ _ _ _ (sym c.is_writable-writable.ensures ∙ not-true _ c.if-not-writable.true)
+returns-then-not-writable c = gives-60 _ _ _ _ (sym c.is_writable-writable.ensures ∙ c.if-not-writable.true)
 
 pub returns-then-rows-eq0 : goal.returns-then-rows-eq0
-returns-then-rows-eq0 c = gives-61 _ _ _ _ (sym c.is_writable-writable.ensures ∙ not-false _ c.if-not-writable.false) c.if-rows-eq0.true
+returns-then-rows-eq0 c = gives-61 _ _ _ _ (sym c.is_writable-writable.ensures ∙ c.if-not-writable.false) c.if-rows-eq0.true
 
 pub any_nan-nan-requires : goal.any_nan-nan-requires
-any_nan-nan-requires c = record { held = c.requires.held; typed = (both_true _ _ (sym c.is_writable-writable.ensures ∙ not-false _ c.if-not-writable.false)).0 }
+any_nan-nan-requires c = record { held = c.requires.held; typed = (both_true _ _ (sym c.is_writable-writable.ensures ∙ c.if-not-writable.false)).0 }
 
 pub returns-then-nan : goal.returns-then-nan
-returns-then-nan c = gives-62 _ _ _ _ (sym c.is_writable-writable.ensures ∙ not-false _ c.if-not-writable.false) c.if-rows-eq0.false (sym c.any_nan-nan.ensures ∙ c.if-nan.true)
+returns-then-nan c = gives-62 _ _ _ _ (sym c.is_writable-writable.ensures ∙ c.if-not-writable.false) c.if-rows-eq0.false (sym c.any_nan-nan.ensures ∙ c.if-nan.true)
 
 pub returns-then-not-finite : goal.returns-then-not-finite
 returns-then-not-finite c =
-    gives-63 _ _ _ _ (sym c.is_writable-writable.ensures ∙ not-false _ c.if-not-writable.false) c.if-rows-eq0.false (sym c.any_nan-nan.ensures ∙ c.if-nan.false)
-    (both-finite _ _ _ _ _ _ c.is_finite.ensures c.is_finite-2.ensures c.requires.time (not-true _ c.if-not-finite.true))
+    gives-63 _ _ _ _ (sym c.is_writable-writable.ensures ∙ c.if-not-writable.false) c.if-rows-eq0.false (sym c.any_nan-nan.ensures ∙ c.if-nan.false)
+    (both-finite _ _ _ _ _ _ c.is_finite.ensures c.is_finite-2.ensures c.requires.time (c.if-not-finite.true))
 
 pub file_length-requires : goal.file_length-requires
 file_length-requires c =
-    let writable = sym c.is_writable-writable.ensures ∙ not-false _ c.if-not-writable.false in
+    let writable = sym c.is_writable-writable.ensures ∙ c.if-not-writable.false in
     let columns : one_or_three c.args.e.m ≡ true = (both_true (floating c.args.e.kind) _ writable).1 in
     record { rows = few-rows _ _ c.requires.held columns; columns = columns }
 
 pub returns-then-room-file_length : goal.returns-then-room-file_length
 returns-then-room-file_length c =
-    gives-64 _ _ _ _ (sym c.is_writable-writable.ensures ∙ not-false _ c.if-not-writable.false) c.if-rows-eq0.false (sym c.any_nan-nan.ensures ∙ c.if-nan.false)
-    (both-finite _ _ _ _ _ _ c.is_finite.ensures c.is_finite-2.ensures c.requires.time (not-false _ c.if-not-finite.false))
+    gives-64 _ _ _ _ (sym c.is_writable-writable.ensures ∙ c.if-not-writable.false) c.if-rows-eq0.false (sym c.any_nan-nan.ensures ∙ c.if-nan.false)
+    (both-finite _ _ _ _ _ _ c.is_finite.ensures c.is_finite-2.ensures c.requires.time (c.if-not-finite.false))
     (λ e. c.if-room-file_length.true (e ∙ sym c.file_length.ensures))
 
 pub returns : goal.returns
 returns c =
-    gives-0 _ _ _ _ (sym c.is_writable-writable.ensures ∙ not-false _ c.if-not-writable.false) c.if-rows-eq0.false (sym c.any_nan-nan.ensures ∙ c.if-nan.false)
-    (both-finite _ _ _ _ _ _ c.is_finite.ensures c.is_finite-2.ensures c.requires.time (not-false _ c.if-not-finite.false))
+    gives-0 _ _ _ _ (sym c.is_writable-writable.ensures ∙ c.if-not-writable.false) c.if-rows-eq0.false (sym c.any_nan-nan.ensures ∙ c.if-nan.false)
+    (both-finite _ _ _ _ _ _ c.is_finite.ensures c.is_finite-2.ensures c.requires.time (c.if-not-finite.false))
     (c.if-room-file_length.false ∙ c.file_length.ensures)

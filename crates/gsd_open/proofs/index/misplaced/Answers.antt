@@ -14,35 +14,35 @@ use Rattle.gsd_open.proofs.index.misplaced.Goals as goal
 pub returns-then-not-is_10 : goal.returns-then-not-is_10
 returns-then-not-is_10 c =
     let x = c.args in
-    let recent = sym c.is_10.ensures ∙ not-true _ c.if-not-is_10.true in
+    let recent = sym c.is_10.ensures ∙ c.if-not-is_10.true in
     record { value = ap (λ k. ltb k x.least) c.key_of.ensures.answer ∙ sym (place-recent x.version recent x.least _ x.e); kept = λ _. sym (noted-recent x.version recent _ x.e) }
 
 pub returns-then-e-least : goal.returns-then-e-least
 returns-then-e-least c =
     let x = c.args in
-    let is = sym c.is_10.ensures ∙ not-false _ c.if-not-is_10.false in
+    let is = sym c.is_10.ensures ∙ c.if-not-is_10.false in
     record { value = sym (place-10 x.version is x.least _ x.e ∙ left-holds _ _ (lt-ltb (key_of (x.e.frame + 1) 0) x.least (omega arith))); kept = λ f. absurd (true≢false f) }
 
 pub bounds-last-e : goal.bounds-last-e
 bounds-last-e c =
-    let is = sym c.is_10.ensures ∙ not-false _ c.if-not-is_10.false in
+    let is = sym c.is_10.ensures ∙ c.if-not-is_10.false in
     omega (arith, c.requires.room is)
 
 pub returns-then-last-e : goal.returns-then-last-e
 returns-then-last-e c =
     let x = c.args in
-    let is = sym c.is_10.ensures ∙ not-false _ c.if-not-is_10.false in
+    let is = sym c.is_10.ensures ∙ c.if-not-is_10.false in
     let rises = le-ltb (key_of (x.e.frame + 1) 0) x.least (omega arith) in
     record { value = sym (place-10 x.version is x.least _ x.e ∙ right-decides _ _ rises ∙ eq-eqb _ _ c.if-last-e.true); kept = λ f. absurd (true≢false f) }
 
 pub bounds-last-e-2 : goal.bounds-last-e-2
 bounds-last-e-2 c =
-    let is = sym c.is_10.ensures ∙ not-false _ c.if-not-is_10.false in
+    let is = sym c.is_10.ensures ∙ c.if-not-is_10.false in
     omega (arith, c.requires.room is)
 
 pub returns : goal.returns
 returns c =
     let x = c.args in
-    let is = sym c.is_10.ensures ∙ not-false _ c.if-not-is_10.false in
+    let is = sym c.is_10.ensures ∙ c.if-not-is_10.false in
     let rises = le-ltb (key_of (x.e.frame + 1) 0) x.least (omega arith) in
     record { value = sym (place-10 x.version is x.least _ x.e ∙ right-decides _ _ rises ∙ ne_eqb _ _ c.if-last-e.false); kept = λ _. sym (noted-10 x.version is _ x.e) }

@@ -13,7 +13,7 @@ element_in-requires c =
 pub returns-in-Found : goal.returns-in-Found
 returns-in-Found c =
     let found = sym c.lookup.ensures.value ∙ c.in-Found.is in
-    let said = element-says _ _ _ _ _ ((c.element_in.ensures.answer) ∙ sym (element-found _ _ _ _ _ found)) in
+    let said = element-says _ _ _ _ _ (c.element_in.ensures.answer ∙ sym (element-found _ _ _ _ _ found)) in
     record { value = said.0; number = said.1.0; values = said.1.1 }
 
 pub returns-in-Refused : goal.returns-in-Refused

@@ -10,7 +10,7 @@ pub returns-then-image-gt-GREATEST_LENGTH : goal.returns-then-image-gt-GREATEST_
 returns-then-image-gt-GREATEST_LENGTH c = sym (not_short _ _ c.if-image-gt-GREATEST_LENGTH.true)
 
 pub returns-then-not-supported : goal.returns-then-not-supported
-returns-then-not-supported c = sym (not_known _ _ (sym c.supported.ensures ∙ not-true _ c.if-not-supported.true))
+returns-then-not-supported c = sym (not_known _ _ (sym c.supported.ensures ∙ c.if-not-supported.true))
 
 pub returns-then-r : goal.returns-then-r
 returns-then-r c = sym (not-few _ _ c.if-r.true)
@@ -26,5 +26,5 @@ returns-then-len-r-3 c = sym (not-list _ _ (omega (arith, c.if-len-r-3.true)))
 
 pub returns : goal.returns
 returns c =
-    fits_last _ _ (omega (arith, c.if-image-gt-GREATEST_LENGTH.false)) (sym c.supported.ensures ∙ not-false _ c.if-not-supported.false) (omega (arith, c.if-r.false))
+    fits_last _ _ (omega (arith, c.if-image-gt-GREATEST_LENGTH.false)) (sym c.supported.ensures ∙ c.if-not-supported.false) (omega (arith, c.if-r.false))
     (omega (arith, c.if-len-r-2.false, c.if-len-r.false)) (omega (arith, c.if-len-r-3.false))

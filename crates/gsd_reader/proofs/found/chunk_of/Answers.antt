@@ -9,10 +9,10 @@ use Rattle.gsd_reader.proofs.Fitting.{holding}
 use Rattle.gsd_reader.proofs.found.chunk_of.Goals as goal
 
 pub returns-then-not-holds : goal.returns-then-not-holds
-returns-then-not-holds c = sym (chunk-33 _ _ _ _ refl (sym c.holds.ensures ∙ not-true _ c.if-not-holds.true))
+returns-then-not-holds c = sym (chunk-33 _ _ _ _ refl (sym c.holds.ensures ∙ c.if-not-holds.true))
 
 pub returns : goal.returns
 returns c =
-    let held = sym c.holds.ensures ∙ not-false _ c.if-not-holds.false in
+    let held = sym c.holds.ensures ∙ c.if-not-holds.false in
     let within = holding _ _ _ held c.requires in
     (λ i. Place.At (record { c = c.args.e.location; size = c.chunk_bytes.ensures.exact (omega (arith, within.within, within.short)) i })) ∙ sym (chunk-held _ _ _ _ refl held)

@@ -6,10 +6,10 @@ use Rattle.gsd_format.proofs.Readers.{id-33, id-fits}
 use Rattle.gsd_reader.proofs.found.id_by.Goals as goal
 
 pub returns-then-not-fits : goal.returns-then-not-fits
-returns-then-not-fits c = sym (id-33 _ _ (sym c.fits.ensures ∙ not-true _ c.if-not-fits.true) _)
+returns-then-not-fits c = sym (id-33 _ _ (sym c.fits.ensures ∙ c.if-not-fits.true) _)
 
 pub ident_in-requires : goal.ident_in-requires
-ident_in-requires c = (sym c.fits.ensures ∙ not-false _ c.if-not-fits.false)
+ident_in-requires c = (sym c.fits.ensures ∙ c.if-not-fits.false)
 
 pub returns : goal.returns
-returns c = c.ident_in.ensures ∙ sym (id-fits _ _ (sym c.fits.ensures ∙ not-false _ c.if-not-fits.false) _)
+returns c = c.ident_in.ensures ∙ sym (id-fits _ _ (sym c.fits.ensures ∙ c.if-not-fits.false) _)

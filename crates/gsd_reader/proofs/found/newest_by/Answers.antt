@@ -11,19 +11,19 @@ use Rattle.gsd_reader.proofs.Queries.{query-fits}
 use Rattle.gsd_reader.proofs.found.newest_by.Goals as goal
 
 pub returns-then-not-fits : goal.returns-then-not-fits
-returns-then-not-fits c = sym (newest-33 _ _ (sym c.fits.ensures ∙ not-true _ c.if-not-fits.true) _ _)
+returns-then-not-fits c = sym (newest-33 _ _ (sym c.fits.ensures ∙ c.if-not-fits.true) _ _)
 
 pub returns-then-r-frame : goal.returns-then-r-frame
-returns-then-r-frame c = sym (newest-fits _ _ (sym c.fits.ensures ∙ not-false _ c.if-not-fits.false) _ _ ∙ counted-frames _ _ _ _ _ c.if-r-frame.true)
+returns-then-r-frame c = sym (newest-fits _ _ (sym c.fits.ensures ∙ c.if-not-fits.false) _ _ ∙ counted-frames _ _ _ _ _ c.if-r-frame.true)
 
 pub returns-then-r-id : goal.returns-then-r-id
 returns-then-r-id c =
-    sym (newest-fits _ _ (sym c.fits.ensures ∙ not-false _ c.if-not-fits.false) _ _ ∙ counted-names _ _ _ _ _ (omega (arith, c.if-r-frame.false))
+    sym (newest-fits _ _ (sym c.fits.ensures ∙ c.if-not-fits.false) _ _ ∙ counted-names _ _ _ _ _ (omega (arith, c.if-r-frame.false))
     c.if-r-id.true)
 
 pub newest_entry-requires : goal.newest_entry-requires
 newest_entry-requires c =
-    let fit = (sym c.fits.ensures ∙ not-false _ c.if-not-fits.false) in
+    let fit = (sym c.fits.ensures ∙ c.if-not-fits.false) in
     record {
       fits = rw c.query.ensures (
         query-fits _ _ _ _ fit (omega (arith, c.if-r-id.false)),
@@ -44,5 +44,5 @@ returns c =
     let img = c.args.image.now in
     c.newest_entry.ensures
     ∙ ap (λ q. last_before q.id (slots_for img q) (place_behind q.version q.frame q.id (slots_for img q))) c.query.ensures
-    ∙ sym (newest-fits _ _ (sym c.fits.ensures ∙ not-false _ c.if-not-fits.false) _ _ ∙ counted-both _ _ _ _ _ (omega (arith, c.if-r-frame.false))
+    ∙ sym (newest-fits _ _ (sym c.fits.ensures ∙ c.if-not-fits.false) _ _ ∙ counted-both _ _ _ _ _ (omega (arith, c.if-r-frame.false))
     (omega (arith, c.if-r-id.false)))
