@@ -14,7 +14,7 @@ stretch-requires c = record { ordered = omega (arith, inside-at _ _ _ c.in-At.is
 pub returns-in-At : goal.returns-in-At
 returns-in-At c =
     let at = c.in-At.is in
-    record { result_value = c.stretch.ensures.result_value ∙ sym (bytes-at _ _ _ at); itself = lies_at _ _ _ _ at c.stretch.ensures.base }
+    record { result_value = c.stretch.ensures.result_value ∙ sym (bytes-at _ _ _ at); itself = lies_at _ _ _ _ at (c.stretch.ensures.base, c.stretch.ensures.offset) }
 
 pub returns-in-Refused : goal.returns-in-Refused
 returns-in-Refused c =

@@ -1,9 +1,9 @@
 -- `gsd_names::list::segment_list` meets its contract. Invariant: the names found so far are kept, and the segments left begin at `segment`.
 use Prim.Native.Nat.{◌-◌}
-use mathlib.Core.Logic.{⊎_elim}
 use borrow.Author.Rules.{rules}
 use Rattle.gsd_names.proofs.NamePasses.{Segmented, segmented-none, segmented-more, segmented-all, segmented-end}
 use Rattle.gsd_names.proofs.list.segment_list.Goals as goal
+use Rattle.gsd_names.proofs.list.segment_list.Goals.{else-loop-count-test, then-loop-count-test+then-next-segment}
 
 pub loop-count-init : goal.loop-count-init
 loop-count-init c = rw c.keep.ensures (segmented-none _ _ c.requires.segmented c.args.starts.now c.requires.places)
@@ -14,8 +14,8 @@ loop-count-preserved c =
     _ c.past_name-next.ensures c.if-next-segment.false)
 
 pub returns : goal.returns
-returns c =
-    ⊎_elim
-    (λ w. segmented-all _ _ c.requires.segmented _ _ _ c.loop-count.invariant _ c.goes_on.ensures w.left)
-    (λ w. segmented-end _ _ c.requires.segmented _ _ _ c.loop-count.invariant _ c.goes_on.ensures w.0.taken _ w.1.ensures w.2.taken)
-    c.loop-count-test.branch
+returns c = elim c.loop-count-test.branch [
+  | else-loop-count-test w ↦ segmented-all _ _ c.requires.segmented _ _ _ c.loop-count.invariant _ c.goes_on.ensures w.loop-count-test.false
+  | then-loop-count-test+then-next-segment w ↦ segmented-end _ _ c.requires.segmented _ _ _ c.loop-count.invariant _ c.goes_on.ensures w.loop-count-test.true
+      _ w.past_name-next.ensures w.if-next-segment.true
+]

@@ -17,20 +17,16 @@ returns-then-names-gt-MOST_NAMES c = sym (number-many _ _ _ _ c.requires c.if-na
 pub any_twins-requires : goal.any_twins-requires
 any_twins-requires c =
     let spans = c.requires.spans c.if-names.false c.if-names-gt-MOST_NAMES.false in
-    record { spans = rw c.is_10.ensures (spans, c.if-names-gt-MOST_NAMES.false); few = rw c.is_10.ensures (spans, c.if-names-gt-MOST_NAMES.false) }
-
--- with no more than 1,024 names, all closed, the twins decide
-twins-tell : (c : goal.After-any_twins) (b : Bool) → c.any_twins.result ≡ b →
-    let x = c.args in
-    (b ⇒ 11) ≡ names_test x.image.now x.l (block_names x.image.now x.l)
-twins-tell c b e =
-    sym (number-twins _ _ _ _ c.requires b c.if-names.false c.if-names-gt-MOST_NAMES.false
-    (sym (rw c.is_10.ensures at c.any_twins.ensures) ∙ e))
+    record { spans = rw c.is_10.ensures spans; few = c.if-names-gt-MOST_NAMES.false }
 
 pub returns-then-any_twins : goal.returns-then-any_twins
 unfolding ◌⇒◌
-returns-then-any_twins c = twins-tell c true c.if-any_twins.true
+returns-then-any_twins c =
+    let told = sym (rw c.is_10.ensures at c.any_twins.ensures) ∙ c.if-any_twins.true in
+    sym (number-twins _ _ _ _ c.requires true c.if-names.false c.if-names-gt-MOST_NAMES.false told)
 
 pub returns : goal.returns
 unfolding ◌⇒◌
-returns c = twins-tell c false c.if-any_twins.false
+returns c =
+    let told = sym (rw c.is_10.ensures at c.any_twins.ensures) ∙ c.if-any_twins.false in
+    sym (number-twins _ _ _ _ c.requires false c.if-names.false c.if-names-gt-MOST_NAMES.false told)

@@ -3,7 +3,6 @@
 use Prim.Native.Nat.{◌+◌, ◌-◌, ◌≤◌}
 use mathlib.Core.Path.{◌≡◌, refl, sym, ◌∙◌, ap}
 use mathlib.Core.Bool.{false}
-use mathlib.Core.Logic.{⊎_elim}
 use borrow.Author.Rules.{rules}
 use Rattle.gsd_format.specs.Names.{bytes_of}
 use Rattle.gsd_format.specs.Opening.{twins}
@@ -11,6 +10,7 @@ use Rattle.gsd_names.specs.NameLists.{part_at}
 use Rattle.gsd_names.proofs.NameLists.{names, names-all, Passed, passed-more, passed_here, passed-all, twins-here, twins-behind, twins-none}
 use Rattle.gsd_names.proofs.NamePrints.{paired, twins-silent}
 use Rattle.gsd_names.proofs.twins.has_twins.Goals as goal
+use Rattle.gsd_names.proofs.twins.has_twins.Goals.{then-echoed+else-loop-j-test, else-echoed}
 
 pub pairs-init : goal.pairs-init
 pairs-init c = (search rules, (search rules, refl))
@@ -35,14 +35,14 @@ pairs-preserved c =
     let here = c.pairs-test.true in
     let before = c.pairs.invariant in (
       search rules,
-      ⊎_elim
-          (λ w.
-          let all = passed-all _ _ _ _ _ _ _ w.2.left w.1.inv.1.1 in
-          (w.3 ∙ w.1.inv.1.0, before.1.1 ∙ twins-behind _ _ _ _ _ _ _ here refl all w.2.left))
-          (λ w.
-          let silent = sym c.echoed.ensures ∙ w.0.left in
-          (w.1 ∙ before.1.0, before.1.1 ∙ twins-silent _ _ _ _ _ _ c.requires.telling here silent))
-          c.if-echoed.branch,
+      elim c.if-echoed.branch [
+        | then-echoed+else-loop-j-test w ↦
+            let all = passed-all _ _ _ _ _ _ _ w.loop-j-test.false w.loop-j.invariant.1.1 in
+            (w.found-is ∙ w.loop-j.invariant.1.0, before.1.1 ∙ twins-behind _ _ _ _ _ _ _ here refl all w.loop-j-test.false)
+        | else-echoed w ↦
+            let silent = sym c.echoed.ensures ∙ w.if-echoed.false in
+            (w.found-is ∙ before.1.0, before.1.1 ∙ twins-silent _ _ _ _ _ _ c.requires.telling here silent)
+      ],
     )
 
 pub returns-after-pairs : goal.returns-after-pairs

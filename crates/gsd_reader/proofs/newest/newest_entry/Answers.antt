@@ -7,9 +7,7 @@ use Rattle.gsd_reader.proofs.Queries.{behind-fits, behind-place, behind-high}
 use Rattle.gsd_reader.proofs.newest.newest_entry.Goals as goal
 
 pub behind-requires : goal.behind-requires
-behind-requires c =
-    let said = c.requires.frame in
-    record { frame = said.0; id = said.1 }
+behind-requires c = record { frame = c.requires.frame; id = c.requires.id }
 
 pub halve-place-requires : goal.halve-place-requires
 halve-place-requires c = record { fits = rw c.behind.ensures (behind-fits _ _ c.requires.fits c.requires.id); none = refl }
