@@ -11,7 +11,7 @@ pub returns-then-input-gt65536 : goal.returns-then-input-gt65536
 unfolding ascii
 returns-then-input-gt65536 c =
     record {
-      text = stored-front _ 0 (ascii "too long\n") c.put_text.new.0 9 c.put_text.ensures refl (omega arith)
+      text = stored-front _ 0 (ascii "too long\n") c.put_text.new.s 9 c.put_text.ensures refl (omega arith)
           ∙ sym (printed-long _ c.if-input-gt65536.true);
       bound = omega arith;
     }

@@ -38,9 +38,9 @@ loop-i-preserved c =
     let entry = c.entry_at-e.ensures ∙ slot-entry img c.requires.opens c.loop-i.i few _ (omega (arith, c.requires.index)) in
     let line = c.entry_line.ensures.text ∙ ap entry_line entry in (
       search rules,
-      c.put_line-to.auto.0 ∙ c.loop-i.invariant.1,
+      c.put_line-to.auto.out ∙ c.loop-i.invariant.1,
       omega (arith, c.put_line-to.ensures.bound, c.loop-i.invariant.2),
-      lines-put es c.loop-i.i few (take c.loop-i.to c.loop-i.out) text (take c.put_line-to.result c.put_line-to.new.0) line c.put_line-to.ensures.line ∙ c.loop-i.invariant.3,
+      lines-put es c.loop-i.i few (take c.loop-i.to c.loop-i.out) text (take c.put_line-to.result c.put_line-to.new.out) line c.put_line-to.ensures.line ∙ c.loop-i.invariant.3,
     )
 
 pub shape_of-out : goal.shape_of-out

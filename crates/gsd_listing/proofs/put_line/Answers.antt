@@ -17,4 +17,4 @@ returns c =
     let text = take x.line.size x.line.bytes in
     let put = c.put_text.ensures ∙ ap (λ k. stored x.out.now x.at (take k x.line.bytes)) whole in
     let long = length-take-le x.line.size x.line.bytes (omega arith) in
-    record { line = stored-front x.out.now x.at text c.put_text.new.0 (x.at + x.line.size) put (omega arith) (omega arith); bound = omega arith }
+    record { line = stored-front x.out.now x.at text c.put_text.new.s (x.at + x.line.size) put (omega arith) (omega arith); bound = omega arith }

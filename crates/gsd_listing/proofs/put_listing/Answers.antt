@@ -23,7 +23,7 @@ put_entries-requires c =
     let told = c.survey_of-s.ensures in
     let good = c.if-s-ne0.false in
     let verdict = opens img _ _ told good in
-    record { opens = verdict; index = index-there img _ _ told good; counted = told.entries good; count_in_bounds = omega (arith, told.entries good, entries-within img verdict, c.put_line-at.auto.0, c.put_line-at.ensures.bound) }
+    record { opens = verdict; index = index-there img _ _ told good; counted = told.entries good; count_in_bounds = omega (arith, told.entries good, entries-within img verdict, c.put_line-at.auto.out, c.put_line-at.ensures.bound) }
 
 pub returns : goal.returns
 returns c =

@@ -20,6 +20,6 @@ returns c =
     let ok = sym c.plan_append-number.ensures.number ∙ c.if-number-ne0.false in
     record {
       number = sym ok;
-      state = λ _. began-put _ _ c.plan_append-number.new.1.1.0 _ _ (λ i. omega (arith, c.type_inv.image i))
+      state = λ _. began-put _ _ c.plan_append-number.new.plan _ _ (λ i. omega (arith, c.type_inv.image i))
           (λ i. omega (arith, c.type_inv.sheet i)) (c.plan_append-number.ensures.plan ok) c.put_marks.ensures;
     }

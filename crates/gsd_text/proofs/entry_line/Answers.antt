@@ -20,7 +20,7 @@ pub fields-size-requires : goal.fields-size-requires
 fields-size-requires c =
     let e = c.args.e in
     let short = fields-short (numbers e) (omega arith, (omega arith, (omega arith, (omega arith, (omega arith, tt))))) in
-    omega (arith, c.decimal-at.auto.0, c.decimal-at.ensures.answer, decimal-long e.frame (omega arith))
+    omega (arith, c.decimal-at.auto.out, c.decimal-at.ensures.answer, decimal-long e.frame (omega arith))
 
 pub returns : goal.returns
 unfolding entry_line
@@ -30,6 +30,6 @@ returns c =
     let short = fields-short (numbers e) (omega arith, (omega arith, (omega arith, (omega arith, (omega arith, tt))))) in
     record {
       bound = omega (arith, c.decimal-at.ensures.answer, c.fields-size.ensures.answer);
-      text = stored-front c.decimal-at.new.0 c.decimal-at.result (fields (numbers e)) c.fields-size.new.0 c.fields-size.result c.fields-size.ensures.text c.fields-size.ensures.answer (omega (arith, c.decimal-at.auto.0, c.decimal-at.ensures.answer))
-          ∙ ap (λ s. s ++ fields (numbers e)) (stored-front _ 0 (decimal e.frame) c.decimal-at.new.0 c.decimal-at.result c.decimal-at.ensures.text c.decimal-at.ensures.answer (omega arith));
+      text = stored-front c.decimal-at.new.out c.decimal-at.result (fields (numbers e)) c.fields-size.new.out c.fields-size.result c.fields-size.ensures.text c.fields-size.ensures.answer (omega (arith, c.decimal-at.auto.out, c.decimal-at.ensures.answer))
+          ∙ ap (λ s. s ++ fields (numbers e)) (stored-front _ 0 (decimal e.frame) c.decimal-at.new.out c.decimal-at.result c.decimal-at.ensures.text c.decimal-at.ensures.answer (omega arith));
     }

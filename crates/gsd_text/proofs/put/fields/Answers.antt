@@ -26,7 +26,7 @@ loop-i-preserved c =
     let ns = c.args.numbers.now in
     let h = c.loop-i-test.true in (
       search rules,
-      c.decimal-to.auto.0 ∙ length-set c.loop-i.out c.loop-i.to 32 ∙ c.loop-i.invariant.1,
+      c.decimal-to.auto.out ∙ length-set c.loop-i.out c.loop-i.to 32 ∙ c.loop-i.invariant.1,
       rw (c.decimal-to.ensures.text, c.decimal-to.ensures.answer) (sym (fields-stored c.loop-i.out c.loop-i.to ns c.loop-i.i h) ∙ c.loop-i.invariant.2),
       omega (arith, c.decimal-to.ensures.answer, c.loop-i.invariant.3, fields-length ns c.loop-i.i h),
     )

@@ -13,7 +13,7 @@ use Rattle.gsd_text.proofs.put.labelled.Goals as goal
 pub decimal-requires : goal.decimal-requires
 decimal-requires c =
     let n = c.args.n in
-    omega (arith, c.put_text.auto.0, decimal-long n (omega arith))
+    omega (arith, c.put_text.auto.s, decimal-long n (omega arith))
 
 pub returns : goal.returns
 returns c =
@@ -21,7 +21,7 @@ returns c =
     let at = x.at + length x.label.now in
     let digits = decimal-long x.n (omega arith) in
     record {
-      text = stored-front c.put_text.new.0 at (decimal x.n) c.decimal.new.0 c.decimal.result c.decimal.ensures.text c.decimal.ensures.answer (omega (arith, c.put_text.auto.0))
-          ∙ ap (λ s. s ++ decimal x.n) (stored-front x.out.now x.at x.label.now c.put_text.new.0 at c.put_text.ensures refl (omega arith));
+      text = stored-front c.put_text.new.s at (decimal x.n) c.decimal.new.out c.decimal.result c.decimal.ensures.text c.decimal.ensures.answer (omega (arith, c.put_text.auto.s))
+          ∙ ap (λ s. s ++ decimal x.n) (stored-front x.out.now x.at x.label.now c.put_text.new.s at c.put_text.ensures refl (omega arith));
       bound = omega (arith, c.decimal.ensures.answer);
     }

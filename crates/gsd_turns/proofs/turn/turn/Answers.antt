@@ -36,7 +36,7 @@ overflow_sub-result c = omega (arith, c.loop-r.invariant.free)
 pub shape_of-image-then-w-x : goal.shape_of-image-then-w-x
 shape_of-image-then-w-x c =
     let long = c.loop-r.invariant.long in
-    c.some_stores-n.auto.0 ∙ long
+    c.some_stores-n.auto.image ∙ long
 
 pub returns-then-w-x : goal.returns-then-w-x
 returns-then-w-x c =
