@@ -8,4 +8,4 @@ pub put_element-requires : goal.put_element-requires
 put_element-requires c = λ e. element-never-0 _ _ _ _ (sym c.element.ensures.value ∙ e)
 
 pub returns : goal.returns
-returns c = record { number = rw c.element.ensures.value at (c.put_element.ensures.number, c.put_element.ensures.out); out = rw c.element.ensures.value at (c.put_element.ensures.number, c.put_element.ensures.out) }
+returns c = record { number = rw c.element.ensures.value at c.put_element.ensures.number; out = rw c.element.ensures.value at c.put_element.ensures.out }

@@ -8,4 +8,4 @@ pub put_entry-requires : goal.put_entry-requires
 put_entry-requires c = λ e. entry-never-0 _ _ (sym c.entry.ensures.value ∙ e)
 
 pub returns : goal.returns
-returns c = record { number = rw c.entry.ensures.value at (c.put_entry.ensures.number, c.put_entry.ensures.out); out = rw c.entry.ensures.value at (c.put_entry.ensures.number, c.put_entry.ensures.out) }
+returns c = record { number = rw c.entry.ensures.value at c.put_entry.ensures.number; out = rw c.entry.ensures.value at c.put_entry.ensures.out }

@@ -8,4 +8,4 @@ pub put_entry-requires : goal.put_entry-requires
 put_entry-requires c = λ e. lookup-never-0 _ _ _ (sym c.lookup.ensures.value ∙ e)
 
 pub returns : goal.returns
-returns c = record { number = rw c.lookup.ensures.value at (c.put_entry.ensures.number, c.put_entry.ensures.out); out = rw c.lookup.ensures.value at (c.put_entry.ensures.number, c.put_entry.ensures.out) }
+returns c = record { number = rw c.lookup.ensures.value at c.put_entry.ensures.number; out = rw c.lookup.ensures.value at c.put_entry.ensures.out }

@@ -8,4 +8,4 @@ pub put_part-requires : goal.put_part-requires
 put_part-requires c = λ e. name-never-0 _ _ (sym c.name.ensures.value ∙ e)
 
 pub returns : goal.returns
-returns c = record { number = rw c.name.ensures.value at (c.put_part.ensures.number, c.put_part.ensures.out); out = rw c.name.ensures.value at (c.put_part.ensures.number, c.put_part.ensures.out) }
+returns c = record { number = rw c.name.ensures.value at c.put_part.ensures.number; out = rw c.name.ensures.value at c.put_part.ensures.out }

@@ -8,4 +8,4 @@ pub put_counts-requires : goal.put_counts-requires
 put_counts-requires c = λ e. opening-never-0 _ (sym c.open.ensures.value ∙ e)
 
 pub returns : goal.returns
-returns c = record { number = rw c.open.ensures.value at (c.put_counts.ensures.number, c.put_counts.ensures.out); out = rw c.open.ensures.value at (c.put_counts.ensures.number, c.put_counts.ensures.out) }
+returns c = record { number = rw c.open.ensures.value at c.put_counts.ensures.number; out = rw c.open.ensures.value at c.put_counts.ensures.out }

@@ -8,4 +8,4 @@ pub put_reader-requires : goal.put_reader-requires
 put_reader-requires c = λ e. reading-never-0 _ (sym c.open_reader.ensures ∙ e)
 
 pub returns : goal.returns
-returns c = record { number = rw c.open_reader.ensures at (c.put_reader.ensures.number, c.put_reader.ensures.out); out = rw c.open_reader.ensures at (c.put_reader.ensures.number, c.put_reader.ensures.out) }
+returns c = record { number = rw c.open_reader.ensures at c.put_reader.ensures.number; out = rw c.open_reader.ensures at c.put_reader.ensures.out }

@@ -6,15 +6,13 @@ use Rattle.gsd_format.specs.Create.{create_number}
 use Rattle.gsd_format.proofs.Create.{takes, created-kept, created-made}
 use Rattle.gsd_create.proofs.create.Goals as goal
 
--- the test's number is create's
-number : (c : goal.After-create_test-number)
-    → let x = c.args in
-    c.create_test-number.result ≡ create_number x.image.now x.application.now x.schema.now x.slots x.segments
-unfolding create_number
-number c = c.create_test-number.ensures ∙ rw (c.or_default-m.ensures, c.or_default-k.ensures)
-
 pub returns-then-number-ne0 : goal.returns-then-number-ne0
-returns-then-number-ne0 c = record { number = number c; image = sym (created-kept _ _ _ _ _ _ (λ e. c.if-number-ne0.true (number c ∙ e))) }
+unfolding create_number
+returns-then-number-ne0 c =
+    let x = c.args in
+    let number : c.create_test-number.result ≡ create_number x.image.now x.application.now x.schema.now x.slots x.segments =
+        c.create_test-number.ensures ∙ rw (c.or_default-m.ensures, c.or_default-k.ensures) in
+    record { number = number; image = sym (created-kept _ _ _ _ _ _ (λ e. c.if-number-ne0.true (number ∙ e))) }
 
 pub lay_out-requires : goal.lay_out-requires
 lay_out-requires c =
@@ -25,13 +23,16 @@ lay_out-requires c =
     record { application = t.short-application; schema = t.short-schema; slots = t.few-slots; segments = t.few-segments; fits = t.room }
 
 pub returns : goal.returns
+unfolding create_number
 returns c =
     let x = c.args in
+    let number : c.create_test-number.result ≡ create_number x.image.now x.application.now x.schema.now x.slots x.segments =
+        c.create_test-number.ensures ∙ rw (c.or_default-m.ensures, c.or_default-k.ensures) in
     let zero : create_number x.image.now x.application.now x.schema.now x.slots x.segments ≡ 0 =
-    sym (number c) ∙ c.if-number-ne0.false in
+    sym number ∙ c.if-number-ne0.false in
     record {
-      number = number c;
+      number = number;
       image = c.lay_out.ensures
           ∙ rw (c.or_default-m.ensures, c.or_default-k.ensures)
-          (sym (created-made x.image.now x.application.now x.schema.now x.schema-version x.slots x.segments zero));
+          (sym (created-made x.image.now x.application.now x.schema.now x.schema_version x.slots x.segments zero));
     }

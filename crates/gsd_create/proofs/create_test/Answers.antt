@@ -27,19 +27,20 @@ returns-then-bad_text-2 c =
     let second = sym c.bad_text-2.ensures ∙ c.if-bad_text-2.true in
     sym (test-texts _ _ _ _ _ (omega arith) (omega arith) (omega arith) (simp (first, second)))
 
--- past the texts the room alone decides
-decides : (c : goal.Else-bad_text-2)
-    → let x = c.args in
-    create_test x.len x.application.now x.schema.now x.slots x.segments ≡ (ltb x.len (fresh_namelist_end x.slots x.segments) ⇒ 52)
-decides c =
-    test-room _ _ _ _ _ (omega arith) (omega arith) (omega arith)
-    (sym c.bad_text.ensures ∙ c.if-bad_text.false)
-    (sym c.bad_text-2.ensures ∙ c.if-bad_text-2.false)
-
 pub returns-then-len-namelist_place : goal.returns-then-len-namelist_place
 unfolding ◌⇒◌
-returns-then-len-namelist_place c = sym (decides c ∙ rw (sym c.namelist_place.ensures) (simp (lt-ltb _ _ c.if-len-namelist_place.true)))
+returns-then-len-namelist_place c =
+    let x = c.args in
+    let decides : create_test x.len x.application.now x.schema.now x.slots x.segments ≡ (ltb x.len (fresh_namelist_end x.slots x.segments) ⇒ 52) =
+        test-room _ _ _ _ _ (omega arith) (omega arith) (omega arith)
+        (sym c.bad_text.ensures ∙ c.if-bad_text.false) (sym c.bad_text-2.ensures ∙ c.if-bad_text-2.false) in
+    sym (decides ∙ rw (sym c.namelist_place.ensures) (simp (lt-ltb _ _ c.if-len-namelist_place.true)))
 
 pub returns : goal.returns
 unfolding ◌⇒◌
-returns c = sym (decides c ∙ rw (sym c.namelist_place.ensures) (simp (le-ltb _ _ c.if-len-namelist_place.false)))
+returns c =
+    let x = c.args in
+    let decides : create_test x.len x.application.now x.schema.now x.slots x.segments ≡ (ltb x.len (fresh_namelist_end x.slots x.segments) ⇒ 52) =
+        test-room _ _ _ _ _ (omega arith) (omega arith) (omega arith)
+        (sym c.bad_text.ensures ∙ c.if-bad_text.false) (sym c.bad_text-2.ensures ∙ c.if-bad_text-2.false) in
+    sym (decides ∙ rw (sym c.namelist_place.ensures) (simp (le-ltb _ _ c.if-len-namelist_place.false)))

@@ -16,7 +16,7 @@ pub offset_bounds-plan-i : goal.offset_bounds-plan-i
 offset_bounds-plan-i c = omega (arith, c.loop-i-test.true, c.requires.few)
 
 pub bounds-plan-i : goal.bounds-plan-i
-bounds-plan-i c = omega (arith, c.loop-i-test.true, (c.requires.long, c.requires.few))
+bounds-plan-i c = omega (arith, c.loop-i-test.true, c.requires.long, c.requires.few)
 
 pub offset_bounds-pairs-i : goal.offset_bounds-pairs-i
 offset_bounds-pairs-i c = omega (arith, c.loop-i-test.true, c.requires.few)

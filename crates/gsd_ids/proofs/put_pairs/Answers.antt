@@ -22,7 +22,7 @@ pub offset_bounds-plan-i : goal.offset_bounds-plan-i
 offset_bounds-plan-i c = omega (arith, c.loop-i-test.true, c.requires.few)
 
 pub bounds-plan-i : goal.bounds-plan-i
-bounds-plan-i c = omega (arith, c.loop-i-test.true, (c.requires.long, c.requires.few), c.loop-i.invariant.1.kept.long)
+bounds-plan-i c = omega (arith, c.loop-i-test.true, c.requires.long, c.requires.few, c.loop-i.invariant.1.kept.long)
 
 pub loop-i-preserved : goal.loop-i-preserved
 loop-i-preserved c = (omega (arith, c.loop-i-test.true), put-more c.loop-i.invariant.1 c.requires.long (omega (arith, c.loop-i-test.true, c.requires.few)))

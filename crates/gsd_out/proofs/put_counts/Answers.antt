@@ -9,8 +9,8 @@ use Rattle.gsd_out.proofs.put_counts.Goals as goal
 
 pub returns-in-Open : goal.returns-in-Open
 unfolding answered opening_number opening_values
-returns-in-Open c = record { number = rw c.in-Open.is (refl, refl); out = rw c.in-Open.is (refl, refl) }
+returns-in-Open c = record { number = rw c.in-Open.is refl; out = rw c.in-Open.is refl }
 
 pub returns-in-Refused : goal.returns-in-Refused
 unfolding opening_number opening_values
-returns-in-Refused c = record { number = rw c.in-Refused.is (refl, left _ _ _ (λ e. c.requires (c.in-Refused.is ∙ ap Opening.Refused e))); out = rw c.in-Refused.is (refl, left _ _ _ (λ e. c.requires (c.in-Refused.is ∙ ap Opening.Refused e))) }
+returns-in-Refused c = record { number = rw c.in-Refused.is refl; out = rw c.in-Refused.is (left _ _ _ (λ e. c.requires (c.in-Refused.is ∙ ap Opening.Refused e))) }

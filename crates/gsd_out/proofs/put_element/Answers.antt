@@ -12,23 +12,23 @@ use Rattle.gsd_out.proofs.put_element.Goals as goal
 
 pub returns-in-Unsigned : goal.returns-in-Unsigned
 unfolding answered element_number element_values
-returns-in-Unsigned c = record { number = rw c.in-Unsigned.is (refl, refl); out = rw c.in-Unsigned.is (refl, refl) }
+returns-in-Unsigned c = record { number = rw c.in-Unsigned.is refl; out = rw c.in-Unsigned.is refl }
 
 pub returns-in-Signed : goal.returns-in-Signed
 unfolding answered element_number element_values
 returns-in-Signed c =
     let number = c.in-Signed.number in
     let read = to_z-of_z {w = w64} {z = number} (record { sfits = c.in-Signed.known_told-in-Signed-1-own.given.0.1 }) in
-    record { number = rw c.in-Signed.is (refl, ap (λ b. 2 ∷ b ∷ []) (c.bits_of.ensures ∙ ap bits64 read)); out = rw c.in-Signed.is (refl, ap (λ b. 2 ∷ b ∷ []) (c.bits_of.ensures ∙ ap bits64 read)) }
+    record { number = rw c.in-Signed.is refl; out = rw c.in-Signed.is (ap (λ b. 2 ∷ b ∷ []) (c.bits_of.ensures ∙ ap bits64 read)) }
 
 pub returns-in-Single : goal.returns-in-Single
 unfolding answered element_number element_values
-returns-in-Single c = record { number = rw c.in-Single.is (refl, refl); out = rw c.in-Single.is (refl, refl) }
+returns-in-Single c = record { number = rw c.in-Single.is refl; out = rw c.in-Single.is refl }
 
 pub returns-in-Double : goal.returns-in-Double
 unfolding answered element_number element_values
-returns-in-Double c = record { number = rw c.in-Double.is (refl, refl); out = rw c.in-Double.is (refl, refl) }
+returns-in-Double c = record { number = rw c.in-Double.is refl; out = rw c.in-Double.is refl }
 
 pub returns-in-Refused : goal.returns-in-Refused
 unfolding element_number element_values
-returns-in-Refused c = record { number = rw c.in-Refused.is (refl, left _ _ _ (λ e. c.requires (c.in-Refused.is ∙ ap Element.Refused e))); out = rw c.in-Refused.is (refl, left _ _ _ (λ e. c.requires (c.in-Refused.is ∙ ap Element.Refused e))) }
+returns-in-Refused c = record { number = rw c.in-Refused.is refl; out = rw c.in-Refused.is (left _ _ _ (λ e. c.requires (c.in-Refused.is ∙ ap Element.Refused e))) }

@@ -9,8 +9,8 @@ use Rattle.gsd_out.proofs.put_entry.Goals as goal
 
 pub returns-in-Found : goal.returns-in-Found
 unfolding answered listed_number listed_values
-returns-in-Found c = record { number = rw c.in-Found.is (refl, refl); out = rw c.in-Found.is (refl, refl) }
+returns-in-Found c = record { number = rw c.in-Found.is refl; out = rw c.in-Found.is refl }
 
 pub returns-in-Refused : goal.returns-in-Refused
 unfolding listed_number listed_values
-returns-in-Refused c = record { number = rw c.in-Refused.is (refl, left _ _ _ (λ e. c.requires (c.in-Refused.is ∙ ap Listed.Refused e))); out = rw c.in-Refused.is (refl, left _ _ _ (λ e. c.requires (c.in-Refused.is ∙ ap Listed.Refused e))) }
+returns-in-Refused c = record { number = rw c.in-Refused.is refl; out = rw c.in-Refused.is (left _ _ _ (λ e. c.requires (c.in-Refused.is ∙ ap Listed.Refused e))) }

@@ -9,8 +9,8 @@ use Rattle.gsd_out.proofs.put_id.Goals as goal
 
 pub returns-in-Is : goal.returns-in-Is
 unfolding answered ident_number ident_values
-returns-in-Is c = record { number = rw c.in-Is.is (refl, refl); out = rw c.in-Is.is (refl, refl) }
+returns-in-Is c = record { number = rw c.in-Is.is refl; out = rw c.in-Is.is refl }
 
 pub returns-in-Refused : goal.returns-in-Refused
 unfolding ident_number ident_values
-returns-in-Refused c = record { number = rw c.in-Refused.is (refl, left _ _ _ (λ e. c.requires (c.in-Refused.is ∙ ap Ident.Refused e))); out = rw c.in-Refused.is (refl, left _ _ _ (λ e. c.requires (c.in-Refused.is ∙ ap Ident.Refused e))) }
+returns-in-Refused c = record { number = rw c.in-Refused.is refl; out = rw c.in-Refused.is (left _ _ _ (λ e. c.requires (c.in-Refused.is ∙ ap Ident.Refused e))) }

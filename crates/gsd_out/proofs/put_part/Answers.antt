@@ -9,8 +9,8 @@ use Rattle.gsd_out.proofs.put_part.Goals as goal
 
 pub returns-in-At : goal.returns-in-At
 unfolding answered place_number place_values
-returns-in-At c = record { number = rw c.in-At.is (refl, refl); out = rw c.in-At.is (refl, refl) }
+returns-in-At c = record { number = rw c.in-At.is refl; out = rw c.in-At.is refl }
 
 pub returns-in-Refused : goal.returns-in-Refused
 unfolding place_number place_values
-returns-in-Refused c = record { number = rw c.in-Refused.is (refl, left _ _ _ (λ e. c.requires (c.in-Refused.is ∙ ap Place.Refused e))); out = rw c.in-Refused.is (refl, left _ _ _ (λ e. c.requires (c.in-Refused.is ∙ ap Place.Refused e))) }
+returns-in-Refused c = record { number = rw c.in-Refused.is refl; out = rw c.in-Refused.is (left _ _ _ (λ e. c.requires (c.in-Refused.is ∙ ap Place.Refused e))) }

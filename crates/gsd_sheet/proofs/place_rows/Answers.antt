@@ -39,15 +39,11 @@ loop-i-preserved c =
       search rules,
     )
 
--- behind the last row
-ended : (c : goal.After-loop-i)
-    → let s = c.args.sheet.now in c.loop-i.at ≡ name_at s (row_count s)
-ended c = c.loop-i.invariant.1.next ∙ ap (name_at c.args.sheet.now) (omega arith)
-
 pub returns-then-at-sheet : goal.returns-then-at-sheet
 returns-then-at-sheet c =
     let s = c.args.sheet.now in
-    let other : end_test s ≡ 25 = other-end s (λ e. c.if-at-sheet.true (omega (arith, ended c))) in
+    let ended : c.loop-i.at ≡ name_at s (row_count s) = c.loop-i.invariant.1.next ∙ ap (name_at s) (omega arith) in
+    let other : end_test s ≡ 25 = other-end s (λ e. c.if-at-sheet.true (omega (arith, ended))) in
     record { answer = sym other; rows = λ z. absurd (omega arith) }
 
 pub shape_of-plan : goal.shape_of-plan
@@ -57,7 +53,8 @@ pub returns : goal.returns
 returns c =
     let s = c.args.sheet.now in
     let placed = c.loop-i.invariant.1 in
-    let exact : Exact s = omega (arith, ended c) in
+    let ended : c.loop-i.at ≡ name_at s (row_count s) = c.loop-i.invariant.1.next ∙ ap (name_at s) (omega arith) in
+    let exact : Exact s = omega (arith, ended) in
     record {
       answer = sym (exact-end s exact);
       rows = λ z. record {

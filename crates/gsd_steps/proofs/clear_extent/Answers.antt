@@ -32,6 +32,6 @@ unfolding clear_extent
 returns c =
     let p = c.args.plan.now in
     let kept = c.at_most_one-kept.ensures ∙ ap (λ n. min 1 (n / 8)) c.less-words.ensures in
-    let last : 2 ≡ c.args.k = omega (arith, c.if-k-eq0.false, c.if-k-eq1.false, (c.requires.long, c.requires.which)) in
+    let last : 2 ≡ c.args.k = omega (arith, c.if-k-eq0.false, c.if-k-eq1.false, c.requires.long, c.requires.which) in
     let left : c.less-words.result / 8 - c.at_most_one-kept.result ≡ words_behind p - 1 = omega (arith, c.at_most_one-kept.ensures, c.less-words.ensures) in
     c.number_extent-2.ensures ∙ (λ i. number (end_word p + 8 * kept i) (left i) 0) ∙ ap (clear_extent p) last

@@ -20,5 +20,5 @@ returns-in-2 c = rw c.in-2.is c.meta_of.ensures
 pub returns-in_default : goal.returns-in_default
 unfolding of_four
 returns-in_default c =
-    let last : c.args.i ≡ 3 = omega (arith, c.in_default.in_default-own.rest, (c.requires.long, c.requires.slot, c.requires.word, c.requires.row, c.requires.id)) in
+    let last : c.args.i ≡ 3 = omega (arith, c.in_default.in_default-own.rest, c.requires.long, c.requires.slot, c.requires.word, c.requires.row, c.requires.id) in
     rw last

@@ -38,5 +38,5 @@ pub returns-in_default : goal.returns-in_default
 unfolding move_extent
 returns-in_default c =
     let moves = ne_eqb c.args.b.count 0 c.if-b-eq0.false in
-    let last : c.args.k ≡ 3 = omega (arith, c.in_default.in_default-own.rest, (c.requires.small, c.requires.header, c.requires.which)) in
+    let last : c.args.k ≡ 3 = omega (arith, c.in_default.in_default-own.rest, c.requires.small, c.requires.header, c.requires.which) in
     c.number_extent-in_default.ensures ∙ rw (last, moves)

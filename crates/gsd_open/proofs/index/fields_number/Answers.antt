@@ -19,12 +19,12 @@ pub returns-then-not-known : goal.returns-then-not-known
 unfolding fields_test
 returns-then-not-known c =
     let place = neither-of _ _ (le-ltb _ _ c.if-e-lt-HEADER_SIZE.false) (lt-leb _ _ c.if-e-ge-NEGATIVE.false) in
-    let unknown = ap not (sym c.known.ensures) ∙ c.if-not-known.true in
+    let unknown = ap not (sym c.known.ensures ∙ c.if-not-known.true) in
     sym (goes_on _ 12 _ place ∙ decides _ 12 _ unknown)
 
 pub returns : goal.returns
 unfolding fields_test
 returns c =
     let place = neither-of _ _ (le-ltb _ _ c.if-e-lt-HEADER_SIZE.false) (lt-leb _ _ c.if-e-ge-NEGATIVE.false) in
-    let known = ap not (sym c.known.ensures) ∙ c.if-not-known.false in
+    let known = ap not (sym c.known.ensures ∙ c.if-not-known.false) in
     sym (goes_on _ 12 _ place ∙ goes_on _ 13 _ known ∙ sym c.refuse.ensures)

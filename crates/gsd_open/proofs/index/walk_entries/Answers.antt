@@ -41,10 +41,10 @@ overflow_add-e c =
     omega (arith, sound.high, c.chunk_bytes-size.ensures.fits)
 
 pub overflow_add-at : goal.overflow_add-at
-overflow_add-at c = omega (arith, c.loop-i.invariant.1, c.loop-i-test.true, (c.requires.blocks, c.requires.short, c.requires.long, c.requires.few, c.requires.unnoted))
+overflow_add-at c = omega (arith, c.loop-i.invariant.1, c.loop-i-test.true, c.requires.blocks, c.requires.short, c.requires.long, c.requires.few, c.requires.unnoted)
 
 pub overflow_add-i : goal.overflow_add-i
-overflow_add-i c = omega (arith, c.loop-i-test.true, (c.requires.blocks, c.requires.short, c.requires.long, c.requires.few, c.requires.unnoted))
+overflow_add-i c = omega (arith, c.loop-i-test.true, c.requires.blocks, c.requires.short, c.requires.long, c.requires.few, c.requires.unnoted)
 
 pub loop-i-preserved : goal.loop-i-preserved
 loop-i-preserved c =
@@ -56,7 +56,7 @@ loop-i-preserved c =
     let rest = rest_more _ _ (l.slots - i) (l.slots - (i + 1)) e (omega arith) c.entry_at-e.ensures c.if-e-eq0.false in
     let good = told-good _ _ few _ _ _ _ _ _ passed e _ c.entry_number-number.ensures.value c.if-number-ne0.false in
     let sound = told-sound _ _ few _ _ _ _ _ _ passed e _ c.entry_number-number.ensures.value c.if-number-ne0.false in
-    let whole = c.chunk_bytes-size.ensures.exact (omega (arith, sound.within, (c.requires.blocks, c.requires.short, c.requires.long, c.requires.few, c.requires.unnoted))) in
+    let whole = c.chunk_bytes-size.ensures.exact (omega (arith, sound.within, c.requires.blocks, c.requires.short, c.requires.long, c.requires.few, c.requires.unnoted)) in
     let end = c.greater-chunks_end.ensures ∙ ap (λ k. max c.loop-i.chunks_end (e.location + k)) whole in
     let noted = c.entry_number-number.ensures.kept c.if-number-ne0.false in
     let least = ap (λ k. k + 1) c.key_of-least.ensures.answer in (

@@ -7,4 +7,4 @@ pub part_at-requires : goal.part_at-requires
 part_at-requires c = rw c.name.ensures.value (name-inside _ _)
 
 pub returns : goal.returns
-returns c = record { result_value = rw (← c.name.ensures.value) (c.part_at.ensures.result_value, c.part_at.ensures.itself); itself = rw (← c.name.ensures.value) (c.part_at.ensures.result_value, c.part_at.ensures.itself) }
+returns c = record { result_value = rw (← c.name.ensures.value) c.part_at.ensures.result_value; itself = rw (← c.name.ensures.value) c.part_at.ensures.itself }

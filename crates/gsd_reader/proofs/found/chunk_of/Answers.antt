@@ -15,4 +15,4 @@ pub returns : goal.returns
 returns c =
     let held = sym c.holds.ensures ∙ c.if-not-holds.false in
     let within = holding _ _ _ held c.requires in
-    (λ i. Place.At (record { c = c.args.e.location; size = c.chunk_bytes.ensures.exact (omega (arith, within.within, within.short)) i })) ∙ sym (chunk-held _ _ _ _ refl held)
+    (λ i. Place.At (record { start = c.args.e.location; size = c.chunk_bytes.ensures.exact (omega (arith, within.within, within.short)) i })) ∙ sym (chunk-held _ _ _ _ refl held)

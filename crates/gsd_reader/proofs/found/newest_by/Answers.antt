@@ -24,20 +24,7 @@ returns-then-r-id c =
 pub newest_entry-requires : goal.newest_entry-requires
 newest_entry-requires c =
     let fit = (sym c.fits.ensures ∙ c.if-not-fits.false) in
-    record {
-      fits = rw c.query.ensures (
-        query-fits _ _ _ _ fit (omega (arith, c.if-r-id.false)),
-        (omega (arith, c.if-r-frame.false, c.struct_known-1.given), omega (arith, c.if-r-id.false, (fitting _ _ fit).names)),
-      );
-      frame = rw c.query.ensures (
-        query-fits _ _ _ _ fit (omega (arith, c.if-r-id.false)),
-        (omega (arith, c.if-r-frame.false, c.struct_known-1.given), omega (arith, c.if-r-id.false, (fitting _ _ fit).names)),
-      );
-      id = rw c.query.ensures (
-        query-fits _ _ _ _ fit (omega (arith, c.if-r-id.false)),
-        (omega (arith, c.if-r-frame.false, c.struct_known-1.given), omega (arith, c.if-r-id.false, (fitting _ _ fit).names)),
-      );
-    }
+    record { fits = rw c.query.ensures (query-fits _ _ _ _ fit (omega (arith, c.if-r-id.false))); frame = rw c.query.ensures (omega (arith, c.if-r-frame.false, c.struct_known-1.given)); id = rw c.query.ensures (omega (arith, c.if-r-id.false, (fitting _ _ fit).names)) }
 
 pub returns : goal.returns
 returns c =
