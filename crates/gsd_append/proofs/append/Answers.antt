@@ -11,8 +11,8 @@ returns-then-counts-ne0 c =
 
 pub carry_on-done-requires : goal.carry_on-done-requires
 carry_on-done-requires c =
-    let said = (search rules, begins-ready c.begin-counts.ensures c.if-counts-ne0.false) in
-    record { long = said.0; header = said.1.0; ready = said.1.1 }
+    let ready = begins-ready c.begin-counts.ensures c.if-counts-ne0.false in
+    record { long = search rules; header = ready.0; ready = ready.1 }
 
 pub returns : goal.returns
 returns c =

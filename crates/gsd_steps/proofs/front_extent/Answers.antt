@@ -16,7 +16,7 @@ unfolding data_extent
 returns-then-row-rows c = c.data_extent.ensures ∙ sym (at-data _ _ c.if-r-lt3.false c.if-row-rows.true)
 
 pub move_extent-requires : goal.move_extent-requires
-move_extent-requires c = record { small = rw c.name_move.ensures c.requires.sound.name_move; header = rw c.name_move.ensures (omega arith); which = rw c.name_move.ensures c.if-b-lt4.true }
+move_extent-requires c = record { small = rw c.name_move.ensures c.requires.sound.name_move; header = rw c.name_move.ensures (omega arith); which = c.if-b-lt4.true }
 
 pub returns-then-b-lt4 : goal.returns-then-b-lt4
 returns-then-b-lt4 c =
@@ -35,7 +35,7 @@ unfolding name_extent
 returns-then-j-fresh c = c.name_extent.ensures ∙ sym (at_name _ _ c.if-r-lt3.false c.if-row-rows.false c.if-b-lt4.false c.if-j-fresh.true)
 
 pub move_extent-requires-2 : goal.move_extent-requires-2
-move_extent-requires-2 c = record { small = rw c.index_move.ensures c.requires.sound.index_move; header = rw c.index_move.ensures (omega arith); which = rw c.index_move.ensures (omega (arith, c.requires.extent, c.if-r-lt3.false, c.if-row-rows.false, c.if-b-lt4.false, c.if-j-fresh.false)) }
+move_extent-requires-2 c = record { small = rw c.index_move.ensures c.requires.sound.index_move; header = rw c.index_move.ensures (omega arith); which = omega (arith, c.requires.extent, c.if-r-lt3.false, c.if-row-rows.false, c.if-b-lt4.false, c.if-j-fresh.false) }
 
 pub returns : goal.returns
 returns c =

@@ -30,7 +30,7 @@ returns-then-not-supported c =
     let long = le-ltb _ _ c.if-image.false in
     let short = le-ltb _ _ c.if-image-gt-GREATEST_LENGTH.false in
     let magic = ap not (sym c.has_magic.ensures ∙ c.if-not-has_magic.false) in
-    let version = ap not (sym (c.supported.ensures ∙ ap (λ v. supported v) c.u32_at.ensures.answer)) ∙ c.if-not-supported.true in
+    let version = ap not (sym (c.supported.ensures ∙ ap (λ v. supported v) c.u32_at.ensures.answer) ∙ c.if-not-supported.true) in
     sym (goes_on _ 1 _ long ∙ goes_on _ 2 _ short ∙ goes_on _ 3 _ magic ∙ decides _ 3 _ version)
 
 pub returns : goal.returns
@@ -39,6 +39,6 @@ returns c =
     let long = le-ltb _ _ c.if-image.false in
     let short = le-ltb _ _ c.if-image-gt-GREATEST_LENGTH.false in
     let magic = ap not (sym c.has_magic.ensures ∙ c.if-not-has_magic.false) in
-    let version = ap not (sym (c.supported.ensures ∙ ap (λ v. supported v) c.u32_at.ensures.answer)) ∙ c.if-not-supported.false in
+    let version = ap not (sym (c.supported.ensures ∙ ap (λ v. supported v) c.u32_at.ensures.answer) ∙ c.if-not-supported.false) in
     let texts = ap (λ t. t ⇒ 5) (sym c.text_open.ensures) in
     sym (goes_on _ 1 _ long ∙ goes_on _ 2 _ short ∙ goes_on _ 3 _ magic ∙ goes_on _ 4 _ version ∙ texts ∙ sym c.refuse.ensures)

@@ -16,8 +16,8 @@ pub carry_on-made-requires : goal.carry_on-made-requires
 carry_on-made-requires c =
     let x = c.args in
     let fit = sym c.fits.ensures ∙ c.if-not-fits.false in
-    let said = (search rules, fits-ready x.self.words x.image.now x.sheet.now (search rules) fit) in
-    record { long = said.0; header = said.1.0; ready = said.1.1 }
+    let ready = fits-ready x.self.words x.image.now x.sheet.now (search rules) fit in
+    record { long = search rules; header = ready.0; ready = ready.1 }
 
 pub returns : goal.returns
 returns c =
