@@ -31,6 +31,12 @@ returns-then-this-start c =
 pub slice_bounds-same_name-count : goal.slice_bounds-same_name-count
 slice_bounds-same_name-count c = c.name_here-this.ensures.above
 
+pub slice_bounds-same_name-end : goal.slice_bounds-same_name-end
+slice_bounds-same_name-end c =
+    let n = c.name_here-this.ensures in
+    let f = fitting _ _ c.requires in
+    omega (arith, n.short (omega (arith, n.low, c.if-this-start.false)), n.high, c.loop-i.invariant.0, f.list)
+
 pub returns-then-same_name : goal.returns-then-same_name
 returns-then-same_name c =
     let s = c.args in
