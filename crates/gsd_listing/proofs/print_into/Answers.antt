@@ -17,4 +17,4 @@ returns-then-input-gt65536 c =
     }
 
 pub returns : goal.returns
-returns c = record { text = c.put_listing.ensures.text ∙ sym (printed-short _ c.if-input-gt65536.false); bound = omega (arith, c.put_listing.ensures.bound, c.put_listing.auto.out.0) }
+returns c = record { text = c.put_listing.ensures.text ∙ sym (printed-short _ c.if-input-gt65536.false); bound = omega (arith, c.put_listing.ensures.bound, c.put_listing.auto.out) }

@@ -14,34 +14,29 @@ row_count-requires c = (accepted _ _ c.requires.accepted).long
 
 pub find_ids-new-requires : goal.find_ids-new-requires
 find_ids-new-requires c =
-    let (told, (good, (recent, (sheet, (long, located))))) = (c.requires.surveyed, c.requires.opens, c.requires.recent, c.requires.accepted, c.requires.long, c.requires.located) in
     record {
-      spans = listed-spans _ _ _ told good recent;
-      few = survey-few _ _ _ told good;
-      long = long;
-      located = located;
+      spans = listed-spans _ _ _ c.requires.surveyed c.requires.opens c.requires.recent;
+      few = survey-few _ _ _ c.requires.surveyed c.requires.opens;
+      long = c.requires.long;
+      located = c.requires.located;
       counted = c.row_count.ensures;
-      distinct = (accepted _ _ sheet).distinct;
+      distinct = (accepted _ _ c.requires.accepted).distinct;
     }
 
 pub overflow_add-listed : goal.overflow_add-listed
 overflow_add-listed c =
-    let (told, (good, (recent, (sheet, (long, located))))) = (c.requires.surveyed, c.requires.opens, c.requires.recent, c.requires.accepted, c.requires.long, c.requires.located) in
-    omega (arith, survey-few _ _ _ told good, fresh-small _ _ _ _ (located-kept located c.find_ids-new.ensures.kept) c.find_ids-new.ensures.found)
+    omega (arith, survey-few _ _ _ c.requires.surveyed c.requires.opens, fresh-small _ _ _ _ (located-kept c.requires.located c.find_ids-new.ensures.kept) c.find_ids-new.ensures.found)
 
 pub returns-then-listed-new-gt-MOST_NAMES : goal.returns-then-listed-new-gt-MOST_NAMES
 returns-then-listed-new-gt-MOST_NAMES c =
-    let (told, (good, (recent, (sheet, (long, located))))) = (c.requires.surveyed, c.requires.opens, c.requires.recent, c.requires.accepted, c.requires.long, c.requires.located) in
-    plans-refused _ _ _ 27 _ _ (many-names _ _ _ _ _ _ (listed-many _ _ _ told good) (listed-are _ _ _ told good recent) c.find_ids-new.ensures.found c.if-listed-new-gt-MOST_NAMES.true) refl
+    plans-refused _ _ _ 27 _ _ (many-names _ _ _ _ _ _ (listed-many _ _ _ c.requires.surveyed c.requires.opens) (listed-are _ _ _ c.requires.surveyed c.requires.opens c.requires.recent) c.find_ids-new.ensures.found c.if-listed-new-gt-MOST_NAMES.true) refl
 
 pub plan_rows-requires : goal.plan_rows-requires
 plan_rows-requires c =
-    let (told, (good, (recent, (sheet, (long, located))))) = (c.requires.surveyed, c.requires.opens, c.requires.recent, c.requires.accepted, c.requires.long, c.requires.located) in
-    let see = sees _ _ _ told good recent in
-    record { sees = see; asked = asked _ _ _ _ _ _ (listed-many _ _ _ told good) (listed-are _ _ _ told good recent) c.find_ids-new.ensures.found see sheet (c.find_ids-new.ensures.kept.long ∙ long) (located-kept located c.find_ids-new.ensures.kept) }
+    let see = sees _ _ _ c.requires.surveyed c.requires.opens c.requires.recent in
+    record { sees = see; asked = asked _ _ _ _ _ _ (listed-many _ _ _ c.requires.surveyed c.requires.opens) (listed-are _ _ _ c.requires.surveyed c.requires.opens c.requires.recent) c.find_ids-new.ensures.found see c.requires.accepted (c.find_ids-new.ensures.kept.long ∙ c.requires.long) (located-kept c.requires.located c.find_ids-new.ensures.kept) }
 
 pub returns : goal.returns
 returns c =
-    let (told, (good, (recent, (sheet, (long, located))))) = (c.requires.surveyed, c.requires.opens, c.requires.recent, c.requires.accepted, c.requires.long, c.requires.located) in
-    plans-same _ _ _ _ _ _ (few-names _ _ _ _ _ _ (listed-many _ _ _ told good) (listed-are _ _ _ told good recent) c.find_ids-new.ensures.found c.if-listed-new-gt-MOST_NAMES.false)
+    plans-same _ _ _ _ _ _ (few-names _ _ _ _ _ _ (listed-many _ _ _ c.requires.surveyed c.requires.opens) (listed-are _ _ _ c.requires.surveyed c.requires.opens c.requires.recent) c.find_ids-new.ensures.found c.if-listed-new-gt-MOST_NAMES.false)
     c.plan_rows.ensures
