@@ -31,6 +31,7 @@ answers-add (then {cs = cs} r p q) =
 
 whole-calls : {x z : List ℕ} {cs : List Call} (q : Calls x cs z) → AllWhole q → WholeRun x cs
 unfolding AllWhole
+whole-calls none _ y d b = elim b [ ]
 whole-calls (then r p q) (w, ws) y d first = answer-whole _ _ d r p w
 whole-calls (then {cs = cs} r p q) (w, ws) y d (next b) = whole-calls q ws y d (subst (λ m. Begins m cs y d) (sym (made-leaves p)) b)
 

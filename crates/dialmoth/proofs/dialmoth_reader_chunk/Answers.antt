@@ -8,4 +8,4 @@ pub put_part-requires : goal.put_part-requires
 put_part-requires c = λ e. chunk-by-never-0 _ _ _ _ (sym c.chunk_place_by.ensures ∙ e)
 
 pub returns : goal.returns
-returns c = record { number = rw c.reader_in.ensures at (rw c.chunk_place_by.ensures at (c.put_part.ensures.number, c.put_part.ensures.out)); out = rw c.reader_in.ensures at (rw c.chunk_place_by.ensures at (c.put_part.ensures.number, c.put_part.ensures.out)) }
+returns c = record { number = rw c.reader_in.ensures at (rw c.chunk_place_by.ensures at c.put_part.ensures.number); out = rw c.reader_in.ensures at (rw c.chunk_place_by.ensures at c.put_part.ensures.out) }

@@ -8,4 +8,4 @@ pub put_element-requires : goal.put_element-requires
 put_element-requires c = λ e. element-by-never-0 _ _ _ _ _ (sym c.element_by.ensures ∙ e)
 
 pub returns : goal.returns
-returns c = record { number = rw c.reader_in.ensures at (rw c.element_by.ensures at (c.put_element.ensures.number, c.put_element.ensures.out)); out = rw c.reader_in.ensures at (rw c.element_by.ensures at (c.put_element.ensures.number, c.put_element.ensures.out)) }
+returns c = record { number = rw c.reader_in.ensures at (rw c.element_by.ensures at c.put_element.ensures.number); out = rw c.reader_in.ensures at (rw c.element_by.ensures at c.put_element.ensures.out) }

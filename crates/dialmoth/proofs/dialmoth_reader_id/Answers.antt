@@ -8,4 +8,4 @@ pub put_id-requires : goal.put_id-requires
 put_id-requires c = λ e. id-by-never-0 _ _ _ (sym c.id_by.ensures ∙ e)
 
 pub returns : goal.returns
-returns c = record { number = rw c.reader_in.ensures at (rw c.id_by.ensures at (c.put_id.ensures.number, c.put_id.ensures.out)); out = rw c.reader_in.ensures at (rw c.id_by.ensures at (c.put_id.ensures.number, c.put_id.ensures.out)) }
+returns c = record { number = rw c.reader_in.ensures at (rw c.id_by.ensures at c.put_id.ensures.number); out = rw c.reader_in.ensures at (rw c.id_by.ensures at c.put_id.ensures.out) }

@@ -8,4 +8,4 @@ pub put_entry-requires : goal.put_entry-requires
 put_entry-requires c = λ e. newest-by-never-0 _ _ _ _ (sym c.newest_by.ensures ∙ e)
 
 pub returns : goal.returns
-returns c = record { number = rw c.reader_in.ensures at (rw c.newest_by.ensures at (c.put_entry.ensures.number, c.put_entry.ensures.out)); out = rw c.reader_in.ensures at (rw c.newest_by.ensures at (c.put_entry.ensures.number, c.put_entry.ensures.out)) }
+returns c = record { number = rw c.reader_in.ensures at (rw c.newest_by.ensures at c.put_entry.ensures.number); out = rw c.reader_in.ensures at (rw c.newest_by.ensures at c.put_entry.ensures.out) }
