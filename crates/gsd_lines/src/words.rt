@@ -34,8 +34,6 @@ entry0=         \
 lookup0'=       \
 probes0'=       \
 nchilada0'00=   \
-rawwrite0'0=    \
-rawread'0=      \
 reader=         \
 byname0=        \
 bychunk0'=      \
@@ -45,6 +43,8 @@ bylookup0'=     \
 byid'=          \
 byfind00=       \
 bynewest00=     \
+rawwrite0'0=    \
+rawread'0=      \
 ";
 
 // Their places in this list: the words that make an image or a sheet, hold a state or set a reader; those that look at the image,
@@ -113,27 +113,27 @@ pub const PROBES: usize = 30;
 
 pub const NCHILADA: usize = 31;
 
-pub const RAW_WRITE: usize = 32;
+pub const READER: usize = 32;
 
-pub const RAW_READ: usize = 33;
+pub const BY_NAME: usize = 33;
 
-pub const READER: usize = 34;
+pub const BY_CHUNK: usize = 34;
 
-pub const BY_NAME: usize = 35;
+pub const BY_ELEMENT: usize = 35;
 
-pub const BY_CHUNK: usize = 36;
+pub const BY_ENTRY: usize = 36;
 
-pub const BY_ELEMENT: usize = 37;
+pub const BY_LOOKUP: usize = 37;
 
-pub const BY_ENTRY: usize = 38;
+pub const BY_ID: usize = 38;
 
-pub const BY_LOOKUP: usize = 39;
+pub const BY_FIND: usize = 39;
 
-pub const BY_ID: usize = 40;
+pub const BY_NEWEST: usize = 40;
 
-pub const BY_FIND: usize = 41;
+pub const RAW_WRITE: usize = 41;
 
-pub const BY_NEWEST: usize = 42;
+pub const RAW_READ: usize = 42;
 
 pub const UNKNOWN: usize = 43;
 
