@@ -36,7 +36,7 @@ fn run_file(rt: &(impl Files + Print + Eprint), path: &str) -> io::Result<State>
     }
 }
 
-// The counts of the table that argument i names, if there is one. A path is UTF-8 text.
+// The counts of the table that argument i names, if there is such an argument. To std a path is UTF-8 text.
 fn run_argument(rt: &(impl Env + Files + Print + Eprint), i: usize) -> io::Result<Option<State>> {
     let mut path = [0u8; 4096];
     match rt.arg(i, &mut path) {

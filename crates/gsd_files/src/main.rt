@@ -19,7 +19,7 @@ fn list(rt: &(impl Files + Print + Eprint), path: &str) -> io::Result<()> {
     }
 }
 
-// Is there an argument i? A path is UTF-8 text.
+// Lists the file that argument i names; false where there is no such argument. To std a path is UTF-8 text.
 fn list_argument(rt: &(impl Env + Files + Print + Eprint), i: usize) -> io::Result<bool> {
     let mut path = [0u8; 4096];
     match rt.arg(i, &mut path) {

@@ -1,4 +1,4 @@
-// What a program reads into bytes that it has: what a reader gives, up to its end or theirs, and so a file.
+// An input read into bytes that are lent, up to its end or theirs: what a reader gives, or a file.
 #![tactic(auto)]
 
 ghost use Rattle.std.specs.Prelude.{◌<◌, ◌≤◌, length, take, IfOk};
@@ -8,7 +8,7 @@ use std::io::Read;
 use std::rt::Files;
 use std::{fs, io};
 
-// Reads until the bytes are full or the reader ends; how many it gave. A read that fails ends it.
+// Reads until the bytes are full or the reader ends; how many it read. A failed read, also an interrupted one, ends it.
 pub fn read_full<R: Read>(reader: &mut R, bytes: &mut [u8]) -> io::Result<usize>
     ensures bound { IfOk result (λ n. n ≤ length bytes.new) }
     ensures read { IfOk result (λ n. Consumes (R.remaining reader.old) (R.remaining reader.new) (take n bytes.new)) }
