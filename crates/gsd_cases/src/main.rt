@@ -10,44 +10,53 @@ mod readers;
 mod run;
 mod turns;
 
+use gsd_input::read_file;
 use gsd_tables::tally;
 use gsd_tables::tally::State;
+use std::env::FillError;
+use std::io;
+use std::rt::{Env, Files};
 
 // The greatest table.
 const MOST: usize = 65535;
 
-fn run_file(path: &[u8]) -> State {
-    let fd = os::open_read(path);
-    if fd < 0 {
-        os::fail(path);
-        return tally::lost();
-    }
+fn run_file(rt: &(impl Files + Print + Eprint), path: &str) -> io::Result<State> {
     let mut table = [0u8; 65536];
-    let n = io::read_full(fd, &mut table);
-    libc::close(fd);
-    if MOST < n {
-        return tally::too_long(path);
+    match read_file(rt, path, &mut table) {
+        Ok(n) => {
+            if MOST < n {
+                return tally::too_long(rt, path.as_bytes());
+            }
+            run::run(rt, &mut table, n, path.as_bytes())
+        }
+        Err(e) => {
+            eprintln!(rt; "{path}: {e}")?;
+            Ok(tally::lost())
+        }
     }
-    run::run(&mut table, n, path)
 }
 
-fn run_argument(i: usize) -> State {
-    let mut path = io::buffer();
-    let length = os::arg(i, &mut path);
-    if os::errno() != 0 {
-        os::fail(b"argument");
-        return tally::lost();
+// The counts of the table that argument i names, if there is such an argument. To std a path is UTF-8 text.
+fn run_argument(rt: &(impl Env + Files + Print + Eprint), i: usize) -> io::Result<Option<State>> {
+    let mut path = [0u8; 4096];
+    match rt.arg(i, &mut path) {
+        Ok(length) => match str::from_utf8(&path[..length]) {
+            Ok(path) => return Ok(Some(run_file(rt, path)?)),
+            Err(e) => eprintln!(rt; "argument {i}: {e}")?,
+        },
+        Err(FillError::TooLong) => eprintln!(rt; "argument {i}: too long")?,
+        Err(FillError::NotPresent) => return Ok(None),
     }
-    run_file(&path[..length])
+    Ok(Some(tally::lost()))
 }
 
-fn main() {
-    let count = os::arg_count();
+fn main(rt: HostRuntime) -> io::Result<()> {
     let mut s = tally::start();
-    let mut i = 1;
-    while i < count {
-        s = tally::plus(s, run_argument(i));
-        i += 1;
+    for i in 1..usize::MAX {
+        let Some(counts) = run_argument(&rt, i)? else {
+            break;
+        };
+        s = tally::plus(s, counts);
     }
-    tally::sums(b"in all", s);
+    tally::sums(&rt, b"in all", s)
 }

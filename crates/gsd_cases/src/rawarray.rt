@@ -4,6 +4,7 @@ use dialmoth::{dialmoth_rawarray_read, dialmoth_rawarray_write};
 use gsd_lines::{Line, Numbers, part, within, words};
 use gsd_tables::tally;
 use gsd_tables::tally::State;
+use std::io;
 
 // The bytes of an image, and of a sheet.
 const ROOM: usize = 32768;
@@ -25,6 +26,7 @@ pub fn is_raw(k: usize) -> bool {
 
 // A line that does; a sheet that was read is as long as the line says.
 pub fn ask_raw(
+    rt: &impl Print,
     line: Line,
     table: &[u8],
     image: &[u8],
@@ -32,14 +34,14 @@ pub fn ask_raw(
     sheet: &mut [u8; 32768],
     s: State,
     path: &[u8],
-) -> State {
+) -> io::Result<State> {
     let mut text = [0u8; 32768];
     let n = line.numbers;
     let answer = part(table, line.answer);
     if line.word == words::RAW_WRITE {
         let number = write_file(n, table, image, kept);
         let end = tally::answer_number(number, &mut text);
-        return tally::compared(s, path, &text, end, answer);
+        return tally::compared(rt, s, path, &text, end, answer);
     }
     let mut s = s;
     let number = read_file(n, table, image, sheet);
@@ -47,5 +49,5 @@ pub fn ask_raw(
         s.end = n.e;
     }
     let end = tally::answer_number(number, &mut text);
-    tally::compared(s, path, &text, end, answer)
+    tally::compared(rt, s, path, &text, end, answer)
 }

@@ -13,6 +13,7 @@ use gsd_states::STATE_WORDS;
 use gsd_tables::look::look;
 use gsd_tables::tally::State;
 use gsd_tables::{make_line, tally};
+use std::io;
 
 // The number that a line asks for; a call's values go to the arrays.
 fn number_of(
@@ -44,6 +45,7 @@ fn number_of(
 }
 
 fn ask_line(
+    rt: &impl Print,
     line: Line,
     table: &[u8],
     image: &mut [u8; 32768],
@@ -53,11 +55,11 @@ fn ask_line(
     reader: &mut [u64; 8],
     s: State,
     path: &[u8],
-) -> State {
+) -> io::Result<State> {
     let mut text = [0u8; 32768];
     if line.word == words::NCHILADA {
         let end = ask_file(line.numbers, table, part(image, s.len), &mut text);
-        return tally::compared(s, path, &text, end, part(table, line.answer));
+        return tally::compared(rt, s, path, &text, end, part(table, line.answer));
     }
     // More than a search ever probes, and no zeros for a refused append: a count that is not set shows.
     let mut one = [99u64; 1];
@@ -71,11 +73,12 @@ fn ask_line(
     let end = tally::answer(
         line.word, number, &one, &two, &three, &seven, reader, &mut text,
     );
-    tally::compared(s, path, &text, end, part(table, line.answer))
+    tally::compared(rt, s, path, &text, end, part(table, line.answer))
 }
 
 // One line, which is neither empty nor a title nor a comment.
 fn run_words(
+    rt: &impl Print,
     table: &mut [u8],
     from: usize,
     to: usize,
@@ -88,22 +91,23 @@ fn run_words(
     noted: &mut [u64; 8],
     s: State,
     path: &[u8],
-) -> State
+) -> io::Result<State>
     requires inside { to ≤ length table.old }
 {
     let line = read_line(table, from, to);
     if line.word == words::UNKNOWN {
-        return tally::differs(s, path, b" not understood");
+        return tally::differs(rt, s, path, b" not understood");
     }
     if line.word < words::END {
         hold(line.word, state, held);
         note(line.word, line.numbers, reader, noted);
-        return make_line(line, table, image, kept, sheet, s, path);
+        return make_line(rt, line, table, image, kept, sheet, s, path);
     }
     if is_raw(line.word) {
-        return ask_raw(line, table, part(image, s.len), kept, sheet, s, path);
+        return ask_raw(rt, line, table, part(image, s.len), kept, sheet, s, path);
     }
     ask_line(
+        rt,
         line,
         table,
         image,
@@ -117,6 +121,7 @@ fn run_words(
 }
 
 fn run_line(
+    rt: &impl Print,
     table: &mut [u8],
     from: usize,
     to: usize,
@@ -129,25 +134,25 @@ fn run_line(
     noted: &mut [u64; 8],
     s: State,
     path: &[u8],
-) -> State
+) -> io::Result<State>
     requires ordered { from ≤ to }
     requires inside { to ≤ length table.old }
 {
     let s = tally::next(s);
     if from == to {
-        return s;
+        return Ok(s);
     }
     match table[from] {
-        b'#' => tally::begun(s, path),
-        b'-' => s,
+        b'#' => tally::begun(rt, s, path),
+        b'-' => Ok(s),
         _ => run_words(
-            table, from, to, image, kept, sheet, state, held, reader, noted, s, path,
+            rt, table, from, to, image, kept, sheet, state, held, reader, noted, s, path,
         ),
     }
 }
 
 // The first n bytes of a table.
-pub fn run(table: &mut [u8], n: usize, path: &[u8]) -> State
+pub fn run(rt: &impl Print, table: &mut [u8], n: usize, path: &[u8]) -> io::Result<State>
     requires inside { n ≤ length table.old }
 {
     let mut image = [0u8; 32768];
@@ -162,6 +167,7 @@ pub fn run(table: &mut [u8], n: usize, path: &[u8]) -> State
     while from < n {
         let to = line_end(table, from, n);
         s = run_line(
+            rt,
             table,
             from,
             to,
@@ -174,8 +180,8 @@ pub fn run(table: &mut [u8], n: usize, path: &[u8]) -> State
             &mut noted,
             s,
             path,
-        );
+        )?;
         from = to + 1;
     }
-    tally::ended(s, path)
+    tally::ended(rt, s, path)
 }

@@ -95,7 +95,7 @@ fn both(
     if !alike(three, &counts) {
         return UNLIKE;
     }
-    if !check::same(image, copy) {
+    if image != copy {
         return UNLIKE;
     }
     number

@@ -1,53 +1,43 @@
 // Lists each file that an argument names, under its name, or says on standard error why it cannot be read.
 #![tactic(auto)]
 
-use libc::STDOUT_FILENO;
+use gsd_input::read_file;
+use std::env::FillError;
+use std::io;
+use std::rt::{Env, Files};
 
-// `io::read_full` answers a short count at the file's end and where a read fails; only at the end a further read gives 0.
-fn at_end(fd: i32) -> bool {
-    let mut more = [0u8; 1];
-    libc::read(fd, &mut more) == 0
-}
-
-fn list_open(fd: i32, path: &[u8]) {
+fn list(rt: &(impl Files + Print + Eprint), path: &str) -> io::Result<()> {
     let mut input = [0u8; 65537];
     let mut text = [0u8; 262144];
-    let n = io::read_full(fd, &mut input);
-    if n < 65537 && !at_end(fd) {
-        os::fail(path);
-        return;
+    match read_file(rt, path, &mut input) {
+        Ok(n) => {
+            let size = gsd_listing::print_into(&input[..n], &mut text);
+            println!(rt; "{path}")?;
+            rt.write_all(&text[0..size])
+        }
+        Err(e) => eprintln!(rt; "{path}: {e}"),
     }
-    let size = gsd_listing::print_into(&input[..n], &mut text);
-    io::write_all(STDOUT_FILENO, path);
-    io::write_all(STDOUT_FILENO, b"\n");
-    io::write_all(STDOUT_FILENO, &text[0..size]);
 }
 
-fn list(path: &[u8]) {
-    let fd = os::open_read(path);
-    if fd < 0 {
-        os::fail(path);
-        return;
+// Lists the file that argument i names; false where there is no such argument. To std a path is UTF-8 text.
+fn list_argument(rt: &(impl Env + Files + Print + Eprint), i: usize) -> io::Result<bool> {
+    let mut path = [0u8; 4096];
+    match rt.arg(i, &mut path) {
+        Ok(length) => match str::from_utf8(&path[..length]) {
+            Ok(path) => list(rt, path)?,
+            Err(e) => eprintln!(rt; "argument {i}: {e}")?,
+        },
+        Err(FillError::TooLong) => eprintln!(rt; "argument {i}: too long")?,
+        Err(FillError::NotPresent) => return Ok(false),
     }
-    list_open(fd, path);
-    libc::close(fd);
+    Ok(true)
 }
 
-fn list_argument(i: usize) {
-    let mut path = io::buffer();
-    let length = os::arg(i, &mut path);
-    if os::errno() != 0 {
-        os::fail(b"argument");
-        return;
+fn main(rt: HostRuntime) -> io::Result<()> {
+    for i in 1..usize::MAX {
+        if !list_argument(&rt, i)? {
+            break;
+        }
     }
-    list(&path[..length]);
-}
-
-fn main() {
-    let count = os::arg_count();
-    let mut i = 1;
-    while i < count {
-        list_argument(i);
-        i += 1;
-    }
+    Ok(())
 }

@@ -29,7 +29,7 @@ fn word_at(image: &[u8; 32768], at: u64) -> u64 {
 
 fn has(image: &[u8], at: u64, text: &[u8]) -> u64 {
     let to = wrapping_add_u64(at, text.len() as u64);
-    check::same(part(image, span(at, to)), text) as u64
+    (part(image, span(at, to)) == text) as u64
 }
 
 // What stands in an image, len of its bytes lent: the number that the words from END to SAME ask for.
@@ -40,7 +40,7 @@ pub fn look(line: Line, table: &[u8], image: &[u8; 32768], kept: &[u8; 32768], l
         words::END => end_of_use(part(image, len)),
         words::WORD_AT => word_at(image, n.e),
         words::HAS => has(image, n.d, part(table, n.e)),
-        words::SAME => check::same(image, kept) as u64,
+        words::SAME => (image == kept) as u64,
         _ => 0,
     }
 }

@@ -3,6 +3,7 @@
 use crate::tally;
 use crate::tally::State;
 use gsd_lines::{Line, part, words};
+use std::io;
 use std::num::wrapping_add_u64;
 
 // What would lie behind the end is not put, and 1 is answered; else 0.
@@ -88,6 +89,7 @@ fn made(s: State, k: usize, n: u64) -> State {
 
 // A line that makes something, done; the state after it.
 pub fn make_line(
+    rt: &impl Print,
     line: Line,
     table: &[u8],
     image: &mut [u8; 32768],
@@ -95,12 +97,12 @@ pub fn make_line(
     sheet: &mut [u8; 32768],
     s: State,
     path: &[u8],
-) -> State {
+) -> io::Result<State> {
     let k = line.word;
     let n = line.numbers;
     keep(k, image, kept);
     if put(k, n.d, n.e, part(table, n.e), image, sheet, s.end) != 0 {
-        return tally::differs(s, path, b" cannot be put");
+        return tally::differs(rt, s, path, b" cannot be put");
     }
-    made(s, k, n.e)
+    Ok(made(s, k, n.e))
 }

@@ -5,7 +5,7 @@ ghost use Rattle.std.specs.Prelude.{◌+◌, ◌≤◌, length};
 use crate::make::{put_byte, put_text};
 use gsd_bytes::wide;
 use gsd_lines::{part, words};
-use libc::STDOUT_FILENO;
+use std::io;
 use std::num::wrapping_add_u64;
 
 // How long the slice is that is lent, where the sheet ends, and what is counted. idle: the case has asked nothing yet.
@@ -40,65 +40,72 @@ pub fn next(s: State) -> State {
     s
 }
 
-fn said(number: u64, what: &[u8]) {
-    io::print_decimal(STDOUT_FILENO, number);
-    io::write_all(STDOUT_FILENO, what);
+fn said(rt: &impl Print, number: u64, what: &[u8]) -> io::Result<()> {
+    rt.print(number)?;
+    rt.write_all(what)
 }
 
 // Prints what a line answers, and counts it as wrong.
-pub fn differs(s: State, path: &[u8], says: &[u8]) -> State {
+pub fn differs(rt: &impl Print, s: State, path: &[u8], says: &[u8]) -> io::Result<State> {
     let mut s = s;
-    io::write_all(STDOUT_FILENO, path);
-    io::write_all(STDOUT_FILENO, b":");
-    said(s.line, b":");
-    io::write_all(STDOUT_FILENO, says);
-    io::write_all(STDOUT_FILENO, b"\n");
+    rt.write_all(path)?;
+    rt.write_all(b":")?;
+    said(rt, s.line, b":")?;
+    rt.write_all(says)?;
+    rt.write_all(b"\n")?;
     s.wrong = wrapping_add_u64(s.wrong, 1);
-    s
+    Ok(s)
 }
 
 // A case that asks nothing shows nothing.
-fn closed(s: State, path: &[u8]) -> State {
+fn closed(rt: &impl Print, s: State, path: &[u8]) -> io::Result<State> {
     if s.idle {
-        return differs(s, path, b" the case before asks nothing");
+        return differs(rt, s, path, b" the case before asks nothing");
     }
-    s
+    Ok(s)
 }
 
 // A case begins.
-pub fn begun(s: State, path: &[u8]) -> State {
-    let mut s = closed(s, path);
+pub fn begun(rt: &impl Print, s: State, path: &[u8]) -> io::Result<State> {
+    let mut s = closed(rt, s, path)?;
     s.idle = true;
     s.cases = wrapping_add_u64(s.cases, 1);
-    s
+    Ok(s)
 }
 
 // What is answered, up to the text's end, and what is expected.
-pub fn compared(s: State, path: &[u8], text: &[u8; 32768], end: u64, expected: &[u8]) -> State {
+pub fn compared(
+    rt: &impl Print,
+    s: State,
+    path: &[u8],
+    text: &[u8; 32768],
+    end: u64,
+    expected: &[u8],
+) -> io::Result<State> {
     let mut s = s;
     s.idle = false;
     s.answers = wrapping_add_u64(s.answers, 1);
     let got = part(text, end);
-    if check::same(got, expected) {
-        return s;
+    if got == expected {
+        return Ok(s);
     }
-    differs(s, path, got)
+    differs(rt, s, path, got)
 }
 
 // The counts of a table, or of all.
-pub fn sums(name: &[u8], s: State) {
-    io::write_all(STDOUT_FILENO, name);
-    io::write_all(STDOUT_FILENO, b": ");
-    said(s.cases, b" cases, ");
-    said(s.answers, b" answers, ");
-    said(s.wrong, b" wrong\n");
+pub fn sums(rt: &impl Print, name: &[u8], s: State) -> io::Result<()> {
+    rt.write_all(name)?;
+    rt.write_all(b": ")?;
+    said(rt, s.cases, b" cases, ")?;
+    said(rt, s.answers, b" answers, ")?;
+    said(rt, s.wrong, b" wrong\n")
 }
 
 // The table's end.
-pub fn ended(s: State, path: &[u8]) -> State {
-    let s = closed(s, path);
-    sums(path, s);
-    s
+pub fn ended(rt: &impl Print, s: State, path: &[u8]) -> io::Result<State> {
+    let s = closed(rt, s, path)?;
+    sums(rt, path, s)?;
+    Ok(s)
 }
 
 // The counts of two.
@@ -118,29 +125,42 @@ pub fn lost() -> State {
 }
 
 // One that is too long.
-pub fn too_long(path: &[u8]) -> State {
-    io::write_all(STDOUT_FILENO, b"too long: ");
-    io::write_all(STDOUT_FILENO, path);
-    io::write_all(STDOUT_FILENO, b"\n");
-    lost()
+pub fn too_long(rt: &impl Print, path: &[u8]) -> io::Result<State> {
+    rt.write_all(b"too long: ")?;
+    rt.write_all(path)?;
+    rt.write_all(b"\n")?;
+    Ok(lost())
+}
+
+// A number's decimal digits, put before the end of the bytes; where they start.
+fn decimal(number: u64, digits: &mut [u8; 20]) -> usize
+    ensures { result ≤ 20 }
+{
+    let mut rest = number;
+    for at in (0..20).rev() {
+        digits[at] = b'0' + (rest % 10) as u8;
+        rest /= 10;
+        if rest == 0 {
+            return at;
+        }
+    }
+    0
 }
 
 // A space and a number, from a place of a text on; where it ends.
 fn say(text: &mut [u8; 32768], at: u64, number: u64) -> u64 {
     let mut digits = [0u8; 20];
-    let size = io::decimal(number, &mut digits);
+    let start = decimal(number, &mut digits);
     put_byte(text, at, 32);
-    put_text(text, wrapping_add_u64(at, 1), &digits[..size]);
-    wrapping_add_u64(at, wrapping_add_u64(size as u64, 1))
+    put_text(text, wrapping_add_u64(at, 1), &digits[start..]);
+    wrapping_add_u64(at, 21 - start as u64)
 }
 
 // And some values behind it.
 fn say_values(text: &mut [u8; 32768], at: u64, values: &[u64]) -> u64 {
     let mut end = at;
-    let mut i = 0;
-    while i < values.len() {
-        end = say(text, end, values[i]);
-        i += 1;
+    for value in values {
+        end = say(text, end, *value);
     }
     end
 }
@@ -211,10 +231,8 @@ pub fn answer_number(number: u64, text: &mut [u8; 32768]) -> u64 {
 // A call's number and, at every number, the words that a slice holds.
 pub fn answer_words(number: u64, bytes: &[u8], text: &mut [u8; 32768]) -> u64 {
     let mut end = say(text, 0, number);
-    let mut i = 0;
-    while i < bytes.len() / 4 {
+    for i in 0..bytes.len() / 4 {
         end = say(text, end, be32_at(bytes, 4 * i));
-        i += 1;
     }
     end
 }
