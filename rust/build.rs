@@ -1,4 +1,4 @@
-//! Finds libdialmoth.a: in DIALMOTH_LIB_DIR, else where `rt staticlib dialmoth` puts it. A relative
+//! Finds libdialmoth.a: in DIALMOTH_LIB_DIR, else where `./build-archive` puts it. A relative
 //! path is taken from the project's folder: a build script cannot know where cargo was called.
 //!
 //! Packages that depend on this one see DEP_DIALMOTH_LINKED in their build script exactly when the
@@ -21,7 +21,7 @@ fn main() {
     } else {
         let (directory, project) = (directory.display(), project.display());
         println!(
-            "cargo:warning=no libdialmoth.a in {directory}: run `rt staticlib dialmoth` in {project}, \
+            "cargo:warning=no libdialmoth.a in {directory}: run `./build-archive` in {project}, \
              or name the folder that has it in DIALMOTH_LIB_DIR"
         );
     }

@@ -1,6 +1,6 @@
-// The C interface. A slice is a pointer and its length, an array of fixed length a pointer. Each call answers its number,
-// 0 for none; its values go to out, which a refusal leaves as it was. Only probes, append, begin and turn set theirs at every
-// call. A reader is eight words lent by the caller.
+// The calls of the C interface, which dialmoth_c exports. Each call answers its number, 0 for none; its values go to out, which
+// a refusal leaves as it was. Only probes, append, begin and turn set theirs at every call. A reader is eight words lent by the
+// caller.
 #![tactic(auto)]
 
 ghost use Rattle.std.specs.Prelude.{◌≡◌, [], ◌∷◌, length};
@@ -31,8 +31,7 @@ use gsd_reader::{
 use gsd_states::STATE_WORDS;
 
 // Frames, names, entries.
-#[unsafe(no_mangle)]
-pub extern "C" fn dialmoth_open(image: &[u8], out: &mut [u64; 3]) -> u64
+pub fn dialmoth_open(image: &[u8], out: &mut [u64; 3]) -> u64
     ensures number { result ≡ opening_number (opening image.now) }
     ensures out { out.new ≡ opening_out (opening image.now) out.old }
 {
@@ -40,8 +39,7 @@ pub extern "C" fn dialmoth_open(image: &[u8], out: &mut [u64; 3]) -> u64
 }
 
 // Start, length.
-#[unsafe(no_mangle)]
-pub extern "C" fn dialmoth_name(image: &[u8], n: u64, out: &mut [u64; 2]) -> u64
+pub fn dialmoth_name(image: &[u8], n: u64, out: &mut [u64; 2]) -> u64
     ensures number { result ≡ place_number (nth_name image.now n) }
     ensures out { out.new ≡ place_out (nth_name image.now n) out.old }
 {
@@ -49,8 +47,7 @@ pub extern "C" fn dialmoth_name(image: &[u8], n: u64, out: &mut [u64; 2]) -> u64
 }
 
 // Frame, N, location, M, id, type, flags.
-#[unsafe(no_mangle)]
-pub extern "C" fn dialmoth_entry(image: &[u8], n: u64, out: &mut [u64; 7]) -> u64
+pub fn dialmoth_entry(image: &[u8], n: u64, out: &mut [u64; 7]) -> u64
     ensures number { result ≡ listed_number (nth_entry image.now n) }
     ensures out { out.new ≡ listed_out (nth_entry image.now n) out.old }
 {
@@ -58,8 +55,7 @@ pub extern "C" fn dialmoth_entry(image: &[u8], n: u64, out: &mut [u64; 7]) -> u6
 }
 
 // As dialmoth_entry.
-#[unsafe(no_mangle)]
-pub extern "C" fn dialmoth_lookup(image: &[u8], frame: u64, name: &[u8], out: &mut [u64; 7]) -> u64
+pub fn dialmoth_lookup(image: &[u8], frame: u64, name: &[u8], out: &mut [u64; 7]) -> u64
     ensures number { result ≡ listed_number (lookup image.now frame name.now) }
     ensures out { out.new ≡ listed_out (lookup image.now frame name.now) out.old }
 {
@@ -67,8 +63,7 @@ pub extern "C" fn dialmoth_lookup(image: &[u8], frame: u64, name: &[u8], out: &m
 }
 
 // Start, length.
-#[unsafe(no_mangle)]
-pub extern "C" fn dialmoth_chunk(image: &[u8], frame: u64, name: &[u8], out: &mut [u64; 2]) -> u64
+pub fn dialmoth_chunk(image: &[u8], frame: u64, name: &[u8], out: &mut [u64; 2]) -> u64
     ensures number { result ≡ place_number (chunk_place image.now frame name.now) }
     ensures out { out.new ≡ place_out (chunk_place image.now frame name.now) out.old }
 {
@@ -76,14 +71,7 @@ pub extern "C" fn dialmoth_chunk(image: &[u8], frame: u64, name: &[u8], out: &mu
 }
 
 // Kind, bits.
-#[unsafe(no_mangle)]
-pub extern "C" fn dialmoth_element(
-    image: &[u8],
-    frame: u64,
-    name: &[u8],
-    k: u64,
-    out: &mut [u64; 2],
-) -> u64
+pub fn dialmoth_element(image: &[u8], frame: u64, name: &[u8], k: u64, out: &mut [u64; 2]) -> u64
     ensures number { result ≡ element_number (element image.now frame name.now k) }
     ensures out { out.new ≡ element_out (element image.now frame name.now k) out.old }
 {
@@ -91,8 +79,7 @@ pub extern "C" fn dialmoth_element(
 }
 
 // Entries probed, 0 where the lookup is refused before its search.
-#[unsafe(no_mangle)]
-pub extern "C" fn dialmoth_probes(image: &[u8], frame: u64, name: &[u8], out: &mut [u64; 1]) -> u64
+pub fn dialmoth_probes(image: &[u8], frame: u64, name: &[u8], out: &mut [u64; 1]) -> u64
     ensures number { result ≡ listed_number (lookup image.now frame name.now) }
     ensures out { out.new ≡ probes_out image.now frame name.now }
 {
@@ -103,14 +90,7 @@ pub extern "C" fn dialmoth_probes(image: &[u8], frame: u64, name: &[u8], out: &m
 }
 
 // The file of a chunk goes into a slice of its length; a refusal writes nothing.
-#[unsafe(no_mangle)]
-pub extern "C" fn dialmoth_nchilada(
-    image: &[u8],
-    frame: u64,
-    name: &[u8],
-    step: f64,
-    file: &mut [u8],
-) -> u64
+pub fn dialmoth_nchilada(image: &[u8], frame: u64, name: &[u8], step: f64, file: &mut [u8]) -> u64
     ensures number { result ≡ nchilada_number image.now frame name.now step (length file.old) }
     ensures file { file.new ≡ nchilada_file image.now frame name.now step file.old }
 {
@@ -118,13 +98,7 @@ pub extern "C" fn dialmoth_nchilada(
 }
 
 // A chunk as a RawArray file, in a slice of its length; a refusal writes nothing.
-#[unsafe(no_mangle)]
-pub extern "C" fn dialmoth_rawarray_write(
-    image: &[u8],
-    frame: u64,
-    name: &[u8],
-    file: &mut [u8],
-) -> u64
+pub fn dialmoth_rawarray_write(image: &[u8], frame: u64, name: &[u8], file: &mut [u8]) -> u64
     ensures number { result ≡ write_test image.now frame name.now (length file.old) }
     ensures file { file.new ≡ written_file image.now frame name.now file.old }
 {
@@ -132,8 +106,7 @@ pub extern "C" fn dialmoth_rawarray_write(
 }
 
 // A RawArray file as the sheet of one row, in a slice of its length; a refusal writes nothing.
-#[unsafe(no_mangle)]
-pub extern "C" fn dialmoth_rawarray_read(file: &[u8], name: &[u8], sheet: &mut [u8]) -> u64
+pub fn dialmoth_rawarray_read(file: &[u8], name: &[u8], sheet: &mut [u8]) -> u64
     ensures number { result ≡ read_test file.now name.now (length sheet.old) }
     ensures sheet { sheet.new ≡ read_sheet file.now name.now sheet.old }
 {
@@ -141,8 +114,7 @@ pub extern "C" fn dialmoth_rawarray_read(file: &[u8], name: &[u8], sheet: &mut [
 }
 
 // The reader's words.
-#[unsafe(no_mangle)]
-pub extern "C" fn dialmoth_reader_open(image: &[u8], reader: &mut [u64; 8]) -> u64
+pub fn dialmoth_reader_open(image: &[u8], reader: &mut [u64; 8]) -> u64
     ensures number { result ≡ reading_number (reading image.now) }
     ensures out { reader.new ≡ reading_out (reading image.now) reader.old }
 {
@@ -165,13 +137,7 @@ fn reader_in(words: &[u64; 8]) -> Reader
 }
 
 // Start, length.
-#[unsafe(no_mangle)]
-pub extern "C" fn dialmoth_reader_name(
-    reader: &[u64; 8],
-    image: &[u8],
-    n: u64,
-    out: &mut [u64; 2],
-) -> u64
+pub fn dialmoth_reader_name(reader: &[u64; 8], image: &[u8], n: u64, out: &mut [u64; 2]) -> u64
     ensures number { result ≡ place_number (name_by (reader_in reader.now) image.now n) }
     ensures out { out.new ≡ place_out (name_by (reader_in reader.now) image.now n) out.old }
 {
@@ -179,13 +145,7 @@ pub extern "C" fn dialmoth_reader_name(
 }
 
 // As dialmoth_entry.
-#[unsafe(no_mangle)]
-pub extern "C" fn dialmoth_reader_entry(
-    reader: &[u64; 8],
-    image: &[u8],
-    n: u64,
-    out: &mut [u64; 7],
-) -> u64
+pub fn dialmoth_reader_entry(reader: &[u64; 8], image: &[u8], n: u64, out: &mut [u64; 7]) -> u64
     ensures number { result ≡ listed_number (entry_by (reader_in reader.now) image.now n) }
     ensures out { out.new ≡ listed_out (entry_by (reader_in reader.now) image.now n) out.old }
 {
@@ -193,8 +153,7 @@ pub extern "C" fn dialmoth_reader_entry(
 }
 
 // As dialmoth_entry.
-#[unsafe(no_mangle)]
-pub extern "C" fn dialmoth_reader_lookup(
+pub fn dialmoth_reader_lookup(
     reader: &[u64; 8],
     image: &[u8],
     frame: u64,
@@ -209,8 +168,7 @@ pub extern "C" fn dialmoth_reader_lookup(
 }
 
 // Start, length.
-#[unsafe(no_mangle)]
-pub extern "C" fn dialmoth_reader_chunk(
+pub fn dialmoth_reader_chunk(
     reader: &[u64; 8],
     image: &[u8],
     frame: u64,
@@ -225,8 +183,7 @@ pub extern "C" fn dialmoth_reader_chunk(
 }
 
 // Kind, bits.
-#[unsafe(no_mangle)]
-pub extern "C" fn dialmoth_reader_element(
+pub fn dialmoth_reader_element(
     reader: &[u64; 8],
     image: &[u8],
     frame: u64,
@@ -242,13 +199,7 @@ pub extern "C" fn dialmoth_reader_element(
 }
 
 // The id.
-#[unsafe(no_mangle)]
-pub extern "C" fn dialmoth_reader_id(
-    reader: &[u64; 8],
-    image: &[u8],
-    name: &[u8],
-    out: &mut [u64; 1],
-) -> u64
+pub fn dialmoth_reader_id(reader: &[u64; 8], image: &[u8], name: &[u8], out: &mut [u64; 1]) -> u64
     ensures number { result ≡ ident_number (id_by (reader_in reader.now) image.now name.now) }
     ensures out { out.new
         ≡ ident_out (id_by (reader_in reader.now) image.now name.now) out.old }
@@ -257,8 +208,7 @@ pub extern "C" fn dialmoth_reader_id(
 }
 
 // As dialmoth_entry.
-#[unsafe(no_mangle)]
-pub extern "C" fn dialmoth_reader_find(
+pub fn dialmoth_reader_find(
     reader: &[u64; 8],
     image: &[u8],
     frame: u64,
@@ -272,8 +222,7 @@ pub extern "C" fn dialmoth_reader_find(
 }
 
 // As dialmoth_entry, of the newest frame at or below.
-#[unsafe(no_mangle)]
-pub extern "C" fn dialmoth_reader_newest(
+pub fn dialmoth_reader_newest(
     reader: &[u64; 8],
     image: &[u8],
     frame: u64,
@@ -287,8 +236,7 @@ pub extern "C" fn dialmoth_reader_newest(
 }
 
 // A refusal changes no byte.
-#[unsafe(no_mangle)]
-pub extern "C" fn dialmoth_create(
+pub fn dialmoth_create(
     image: &mut [u8],
     application: &[u8],
     schema: &[u8],
@@ -305,13 +253,7 @@ pub extern "C" fn dialmoth_create(
 
 // Stores done, stores of the whole append, listed entries that it copies: three zeros where it is refused, which changes no
 // byte of the image.
-#[unsafe(no_mangle)]
-pub extern "C" fn dialmoth_append(
-    image: &mut [u8],
-    sheet: &[u8],
-    limit: u64,
-    out: &mut [u64; 3],
-) -> u64
+pub fn dialmoth_append(image: &mut [u8], sheet: &[u8], limit: u64, out: &mut [u64; 3]) -> u64
     ensures number { result ≡ append_test image.old sheet.now }
     ensures image { image.new ≡ appended image.old sheet.now limit }
     ensures out { out.new ≡ append_out image.old sheet.now limit }
@@ -322,8 +264,7 @@ pub extern "C" fn dialmoth_append(
 }
 
 // Stores of the whole append, listed entries that it copies: two zeros where it is refused. The state is set at every call.
-#[unsafe(no_mangle)]
-pub extern "C" fn dialmoth_begin(
+pub fn dialmoth_begin(
     image: &[u8],
     sheet: &[u8],
     state: &mut [u64; STATE_WORDS],
@@ -342,8 +283,7 @@ pub extern "C" fn dialmoth_begin(
 }
 
 // Stores made by this turn, 0 where it is refused, which changes neither the image nor the state.
-#[unsafe(no_mangle)]
-pub extern "C" fn dialmoth_turn(
+pub fn dialmoth_turn(
     state: &mut [u64; STATE_WORDS],
     image: &mut [u8],
     sheet: &[u8],

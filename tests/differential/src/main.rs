@@ -59,7 +59,7 @@ fn main() -> ExitCode {
     };
     // Without the archive nothing was tested, so nothing has passed.
     let Some(library) = library else {
-        println!("{against}: not there; `rt staticlib dialmoth` makes the archive");
+        println!("{against}: not there; `./build-archive` makes the archive");
         println!("0 passed, 1 failed");
         return ExitCode::FAILURE;
     };
