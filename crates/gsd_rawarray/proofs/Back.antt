@@ -1,5 +1,5 @@
 -- What comes back: a file that is read makes a sheet of its one row, what follows its data is ignored, and what was written is read.
-use Prim.Native.Nat.{ℕ, ◌+◌, ◌*◌, ◌^◌, ◌≤◌, ◌<◌}
+use Prim.Native.Nat.{ℕ, ◌+◌, ◌*◌, ◌^◌, ◌<◌}
 use mathlib.Core.Path.{◌≡◌, refl, sym, ◌∙◌, ap}
 use mathlib.Core.Bool.{true, not}
 use mathlib.Core.List.{List, ◌++◌}
@@ -7,7 +7,7 @@ use native.Mathlib.Decide.{ℕ_discrete}
 use native.Mathlib.Omega.{arith}
 use lib.ListN.{length, take, drop, length-append}
 use lib.Seq.{take_all}
-use lib.Dec.{leb, eqb}
+use lib.Dec.{eqb}
 use borrow.Author.Tests.{le-leb, eq-eqb}
 use Rattle.gsd_format.specs.declared.Entry.{Entry}
 use Rattle.gsd_format.specs.declared.Listed.{Listed}
@@ -17,10 +17,9 @@ use Rattle.gsd_format.specs.Types.{size_of, chunk_size}
 use Rattle.gsd_format.specs.Lookup.{lookup, chunk_of}
 use Rattle.gsd_format.proofs.Bytes.{Octets, le-bound, le-back, same_refl}
 use Rattle.gsd_format.proofs.Entries.{Fits}
-use Rattle.gsd_format.proofs.Refusals.{both, both_of, first_of, was-accepted}
+use Rattle.gsd_format.proofs.Refusals.{both_of, first_of, was-accepted}
 use Rattle.gsd_format.proofs.Types.{size-kind, size-each}
 use Rattle.gsd_format.proofs.Calls.{lookup-found, lookup-never-0}
-use Rattle.gsd_elements.specs.Held.{Held}
 use Rattle.gsd_read.proofs.Lookups.{found-held, found-fits}
 use Rattle.gsd_rawarray.specs.File.{raw_magic, raw_type, raw_head, raw_file}
 use Rattle.gsd_rawarray.specs.Said.{flags, element_type, width, data_length, dimensions, data_start, raw_data, raw_n, raw_m, raw_kind, kind_of}
@@ -30,7 +29,7 @@ use Rattle.gsd_rawarray.proofs.Types.{kind-sized, kind-back, plain-some}
 use Rattle.gsd_rawarray.proofs.Said.{n-one, n-two, m-two, dims-two}
 use Rattle.gsd_rawarray.proofs.Requests.{gives-0, request-passed}
 use Rattle.gsd_rawarray.proofs.Sheets.{product, data-length}
-use Rattle.gsd_rawarray.proofs.Files.{known-kind, chunk-length, head-length, of-found, of-refused}
+use Rattle.gsd_rawarray.proofs.Files.{chunk-length, head-length, of-refused}
 use Rattle.gsd_rawarray.proofs.Rows.{one_row, one-row, good-form}
 
 -- A file that is read

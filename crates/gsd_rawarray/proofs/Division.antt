@@ -1,5 +1,5 @@
 -- Laws of a product of three numbers that is tested by division.
-use Prim.Native.Nat.{ℕ, zero, suc, ◌+◌, ◌*◌, ◌/◌, ◌%◌, ◌<◌}
+use Prim.Native.Nat.{ℕ, zero, suc, ◌*◌, ◌/◌, ◌%◌, ◌<◌}
 use mathlib.Core.Path.{◌≡◌, refl, sym, ◌∙◌, ap}
 use mathlib.Core.Bool.{false}
 use native.Mathlib.Nat.{mul-zero, zero-mul, mul-div_cancel, mul_comm, mod-add-div}

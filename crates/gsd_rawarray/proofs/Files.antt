@@ -14,7 +14,7 @@ use Rattle.gsd_format.specs.Refusals.{◌⇒◌, accepted}
 use Rattle.gsd_format.specs.Types.{size_of, chunk_size}
 use Rattle.gsd_format.specs.Lookup.{lookup, chunk_of}
 use Rattle.gsd_format.specs.Answers.{listed_number}
-use Rattle.gsd_format.specs.Calls.{lookup_test, found_entry}
+use Rattle.gsd_format.specs.Calls.{lookup_test}
 use Rattle.gsd_format.proofs.Bytes.{part_length, store-more, stored-whole}
 use Rattle.gsd_format.proofs.Refusals.{met, differ-no, first_of, stays, not-accepted}
 use Rattle.gsd_format.proofs.Types.{size-kind}

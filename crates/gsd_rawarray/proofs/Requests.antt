@@ -1,17 +1,17 @@
 -- Laws of requests: the tests in their order, and what passing them leaves.
-use Prim.Native.Nat.{ℕ, ◌+◌, ◌*◌, ◌≤◌, ◌<◌}
-use mathlib.Core.Path.{◌≡◌, refl, sym, ◌∙◌, ap}
-use mathlib.Core.Bool.{Bool, true, false, not, ◌&&◌, ◌||◌}
+use Prim.Native.Nat.{ℕ, ◌≤◌, ◌<◌}
+use mathlib.Core.Path.{◌≡◌, sym, ◌∙◌, ap}
+use mathlib.Core.Bool.{true, false, not, ◌||◌}
 use mathlib.Core.List.{List}
 use native.Mathlib.Omega.{arith}
 use lib.ListN.{length, take}
-use lib.Dec.{ltb, leb, eqb}
-use borrow.Author.Tests.{eqb-true, eqb-false, leb-true, ltb-false, eq-eqb, ne_eqb, lt-ltb, le-ltb, le-leb, not-true, not-false}
+use lib.Dec.{ltb, eqb}
+use borrow.Author.Tests.{eqb-false, ltb-false, eq-eqb, ne_eqb, lt-ltb, le-ltb, not-false}
 use Rattle.gsd_format.specs.Bytes.{same, zero_in}
 use Rattle.gsd_format.specs.Refusals.{◌⇒◌, ◌▹◌}
-use Rattle.gsd_format.proofs.Refusals.{both, unmet, passed, decides, goes_on, met, neither, neither-of, left-holds, right-holds, right-decides, no-differ, differ-no, not-less, first_of, stays}
+use Rattle.gsd_format.proofs.Refusals.{both, unmet, decides, goes_on, met, neither, neither-of, left-holds, right-holds, right-decides, no-differ, differ-no, not-less, first_of, stays}
 use Rattle.gsd_rawarray.specs.File.{raw_magic}
-use Rattle.gsd_rawarray.specs.Said.{flags, width, data_length, data_start, raw_n, raw_m, raw_kind}
+use Rattle.gsd_rawarray.specs.Said.{flags, raw_m, raw_kind}
 use Rattle.gsd_rawarray.specs.Requests.{dimensioned, filled, raw_test, bad_name, sheet_length, read_test}
 
 -- The tests of a file, in their order

@@ -4,19 +4,19 @@ use mathlib.Core.Path.{◌≡◌, refl, sym, ◌∙◌, ap}
 use mathlib.Core.Bool.{Bool, true, false, not, ◌||◌}
 use mathlib.Core.List.{List, [], ◌∷◌, ◌++◌}
 use native.Mathlib.Omega.{arith}
-use lib.ListN.{length, take, drop, length-append}
+use lib.ListN.{length, take, length-append}
 use lib.Seq.{take-append_seam, drop-append_seam, take_all, drop-drop}
 use lib.Dec.{ltb, leb, eqb}
-use borrow.Author.Tests.{lt-ltb, le-ltb, le-leb, eq-eqb, ne_eqb}
+use borrow.Author.Tests.{lt-ltb, le-ltb, le-leb, ne_eqb}
 use Rattle.gsd_format.specs.Bytes.{le, le_bytes, part, zero_in}
-use Rattle.gsd_format.specs.Refusals.{◌⇒◌, one_of}
+use Rattle.gsd_format.specs.Refusals.{one_of}
 use Rattle.gsd_format.specs.Header.{version21}
 use Rattle.gsd_format.specs.Types.{size_of, last_type, known}
 use Rattle.gsd_format.specs.Names.{index_of}
 use Rattle.gsd_format.specs.Opening.{twins}
 use Rattle.gsd_format.proofs.Bytes.{le-back}
 use Rattle.gsd_format.proofs.Refusals.{none_of, passed, neither-of, not-of, both_of, less-no, differ-no}
-use Rattle.gsd_stores.specs.Sheet.{Row, body_size, bad_table, bodies_end, rows_at, row_count, table_end, rows_of, row_names, any_zero, form_test}
+use Rattle.gsd_stores.specs.Sheet.{body_size, bad_table, bodies_end, rows_at, row_count, table_end, rows_of, row_names, any_zero, form_test}
 
 -- a type below characters is known in every version
 known-ever : (version kind : ℕ) → 0 < kind → kind ≤ 10 → known version kind ≡ true

@@ -1,22 +1,22 @@
 -- What follows a file's data is ignored: all that is read of it lies before.
 use Prim.Native.Nat.{ℕ, ◌+◌, ◌*◌, ◌≤◌}
-use mathlib.Core.Path.{◌≡◌, refl, sym, ◌∙◌, ap}
+use mathlib.Core.Path.{◌≡◌, sym, ◌∙◌, ap}
 use mathlib.Core.Bool.{true, not}
 use mathlib.Core.List.{List, ◌∷◌, [], ◌++◌}
 use native.Mathlib.Decide.{ℕ_discrete}
 use native.Mathlib.Omega.{arith}
 use lib.ListN.{length, take, length-append, get_or-append}
-use lib.Dec.{leb, eqb}
+use lib.Dec.{eqb}
 use borrow.Author.Tests.{le-leb, eq-eqb}
 use Rattle.gsd_format.specs.Bytes.{le, le_bytes, part, same}
 use Rattle.gsd_format.specs.Refusals.{◌⇒◌, ◌▹◌}
 use Rattle.gsd_format.proofs.Bytes.{le_same, part_same}
 use Rattle.gsd_format.proofs.Refusals.{both_of, first_of}
 use Rattle.gsd_rawarray.specs.File.{raw_magic}
-use Rattle.gsd_rawarray.specs.Said.{flags, element_type, width, data_length, dimensions, data_start, raw_data, raw_n, raw_m, raw_kind, kind_of}
+use Rattle.gsd_rawarray.specs.Said.{width, data_length, dimensions, data_start, raw_data, raw_n, raw_m, raw_kind, kind_of}
 use Rattle.gsd_rawarray.specs.Requests.{dimensioned, filled, raw_test, bad_name, raw_table, raw_sheet, read_test}
 use Rattle.gsd_rawarray.specs.Back.{Ignored}
-use Rattle.gsd_rawarray.proofs.Said.{n-one, n-two, m-one, m-two, two, start-inside, long, longer, dims-one, dims-two}
+use Rattle.gsd_rawarray.proofs.Said.{n-one, n-two, m-one, m-two, two, long, longer, dims-one, dims-two}
 use Rattle.gsd_rawarray.proofs.Requests.{Passed, file-passed, gives-0}
 use Rattle.gsd_rawarray.proofs.Sheets.{product, data-inside}
 

@@ -2,7 +2,6 @@
 use mathlib.Core.Path.{ap}
 use mathlib.Core.List.{[], ◌∷◌}
 use Rattle.gsd_stores.specs.Append.{append_answer}
-use borrow.Author.Rules.{rules}
 use Rattle.dialmoth.proofs.dialmoth_append.Goals as goal
 
 pub returns : goal.returns

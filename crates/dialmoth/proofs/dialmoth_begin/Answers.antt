@@ -1,5 +1,4 @@
 -- `dialmoth::dialmoth_begin` meets its contract.
-use borrow.Author.Rules.{rules}
 use mathlib.Core.Path.{sym, ◌∙◌, ap}
 use mathlib.Core.List.{[], ◌∷◌}
 use Rattle.dialmoth.proofs.dialmoth_begin.Goals as goal

@@ -1,5 +1,4 @@
 -- `dialmoth::dialmoth_create` meets its contract: the number and the image are the library's.
-use borrow.Author.Rules.{rules}
 use Rattle.dialmoth.proofs.dialmoth_create.Goals as goal
 
 pub returns : goal.returns

@@ -1,6 +1,5 @@
 -- `dialmoth::dialmoth_open` meets its contract: the answer is the library's, and its number is not a refusal's 0.
 use mathlib.Core.Path.{sym, ◌∙◌}
-use borrow.Author.Rules.{rules}
 use Rattle.gsd_format.proofs.Calls.{opening-never-0}
 use Rattle.dialmoth.proofs.dialmoth_open.Goals as goal
 

@@ -1,7 +1,6 @@
 -- `dialmoth::dialmoth_probes` meets its contract: the number of the library's answer, and its count.
 use mathlib.Core.Path.{◌∙◌, ap}
 use mathlib.Core.List.{[], ◌∷◌}
-use borrow.Author.Rules.{rules}
 use Rattle.gsd_format.specs.Answers.{listed_number}
 use Rattle.dialmoth.proofs.dialmoth_probes.Goals as goal
 

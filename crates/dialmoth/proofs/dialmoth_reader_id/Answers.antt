@@ -1,6 +1,5 @@
 -- The answer is the library's for the reader in these words, and its number is not a refusal's 0.
 use mathlib.Core.Path.{sym, ◌∙◌}
-use borrow.Author.Rules.{rules}
 use Rattle.gsd_format.proofs.ReaderNumbers.{id-by-never-0}
 use Rattle.dialmoth.proofs.dialmoth_reader_id.Goals as goal
 

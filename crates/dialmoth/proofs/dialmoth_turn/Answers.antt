@@ -1,5 +1,4 @@
 -- `dialmoth::dialmoth_turn` meets its contract.
-use borrow.Author.Rules.{rules}
 use mathlib.Core.Path.{ap}
 use mathlib.Core.List.{[], ◌∷◌}
 use Rattle.dialmoth.proofs.dialmoth_turn.Goals as goal

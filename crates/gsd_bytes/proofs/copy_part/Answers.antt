@@ -1,5 +1,5 @@
 -- `gsd_bytes::copy_part` meets its contract: two parts that follow one another are one.
-use Rattle.std.proofs.Common.{◌≡◌, ℕ, ◌+◌, ◌-◌, ◌≤◌, List, length, sym, ap, ◌∙◌, arith, rules}
+use Rattle.std.proofs.Common.{◌≡◌, ℕ, ◌+◌, ◌-◌, ◌≤◌, List, length, sym, ap, ◌∙◌, arith}
 use Rattle.gsd_format.specs.Bytes.{part, stored}
 use Rattle.gsd_format.proofs.Bytes.{part_length, part-append, store-more}
 use Rattle.gsd_bytes.proofs.copy_part.Goals as goal

@@ -1,5 +1,5 @@
 -- `gsd_bytes::fill_zero` meets its contract: the bytes passed are zeros.
-use Rattle.std.proofs.Common.{◌≡◌, ◌+◌, ◌-◌, ◌≤◌, length, get_or, take, arith, length-set, take_all, rules}
+use Rattle.std.proofs.Common.{◌≡◌, ◌+◌, ◌-◌, get_or, arith, length-set, take_all, rules}
 use native.Mathlib.Nat.{sub_self}
 use lib.ListN.{length-replicate, get_or-replicate}
 use Rattle.gsd_format.specs.Bytes.{stored, zeros}

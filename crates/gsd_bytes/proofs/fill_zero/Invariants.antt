@@ -1,9 +1,6 @@
 -- `gsd_bytes::fill_zero` meets its contract: the bytes passed are zeros.
-use Rattle.std.proofs.Common.{◌≡◌, ◌+◌, ◌-◌, ◌≤◌, length, get_or, take, arith, length-set, take_all, rules}
-use native.Mathlib.Nat.{sub_self}
-use lib.ListN.{length-replicate, get_or-replicate}
+use Rattle.std.proofs.Common.{◌≡◌, ◌-◌, ◌≤◌, length, take}
 use Rattle.gsd_format.specs.Bytes.{stored, zeros}
-use Rattle.gsd_format.proofs.Bytes.{stored_next}
 use Rattle.gsd_bytes.proofs.fill_zero.Given as goal
 
 abbrev pub invariant-loop-i : goal.invariant-loop-i

@@ -1,5 +1,5 @@
 -- `gsd_bytes::known` meets its contract: from 1 to the version's last type.
-use Rattle.std.proofs.Common.{leb, sym, ap, ◌∙◌, arith, rules}
+use Rattle.std.proofs.Common.{leb, sym, ap, ◌∙◌, arith}
 use Rattle.gsd_format.proofs.Types.{known-none, known_some}
 use Rattle.gsd_bytes.proofs.known.Goals as goal
 

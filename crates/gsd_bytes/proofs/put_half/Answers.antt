@@ -1,5 +1,5 @@
 -- `gsd_bytes::put_half` meets its contract: its stores are those of the four bytes in a row.
-use Rattle.std.proofs.Common.{arith, length-set, rules}
+use Rattle.std.proofs.Common.{arith, length-set}
 use Rattle.gsd_format.proofs.Bytes.{stored-four}
 use Rattle.gsd_bytes.proofs.put_half.Goals as goal
 

@@ -1,7 +1,6 @@
 -- `gsd_bytes::put_text` meets its contract: the bytes passed are stored.
-use Rattle.std.proofs.Common.{◌≡◌, ◌-◌, ◌≤◌, length, take, arith, length-set, take_all, rules}
+use Rattle.std.proofs.Common.{◌≡◌, ◌-◌, ◌≤◌, length, take}
 use Rattle.gsd_format.specs.Bytes.{stored}
-use Rattle.gsd_format.proofs.Bytes.{stored_next}
 use Rattle.gsd_bytes.proofs.put_text.Given as goal
 
 abbrev pub invariant-loop-i : goal.invariant-loop-i

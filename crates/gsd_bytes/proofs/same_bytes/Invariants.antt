@@ -1,6 +1,6 @@
 -- `gsd_bytes::same_bytes` meets its contract: the bytes passed are the same.
-use Rattle.std.proofs.Common.{◌-◌, ◌≤◌, sym, arith, rules, below_more}
-use Rattle.gsd_format.proofs.Bytes.{Same, same-yes, same-no}
+use Rattle.std.proofs.Common.{◌-◌, ◌≤◌}
+use Rattle.gsd_format.proofs.Bytes.{Same}
 use Rattle.gsd_bytes.proofs.same_bytes.Given as goal
 
 abbrev pub invariant-loop-i : goal.invariant-loop-i

@@ -1,5 +1,5 @@
 -- `gsd_bytes::same_part` meets its contract: the words, and then the bytes left over.
-use Rattle.std.proofs.Common.{◌≡◌, ℕ, ◌+◌, ◌*◌, ◌/◌, ◌%◌, ◌≤◌, true, false, ◌&&◌, List, length, sym, ap, ◌∙◌, arith, rules}
+use Rattle.std.proofs.Common.{◌≡◌, ℕ, ◌+◌, ◌*◌, ◌/◌, ◌%◌, ◌≤◌, true, false, ◌&&◌, List, length, sym, ap, ◌∙◌, arith}
 use Rattle.gsd_format.specs.Bytes.{part, same}
 use Rattle.gsd_format.proofs.Bytes.{same-halves}
 use Rattle.gsd_bytes.proofs.same_part.Goals as goal

@@ -1,5 +1,5 @@
 -- `gsd_bytes::same_words` meets its contract: the words passed are the same.
-use Rattle.std.proofs.Common.{◌+◌, ◌-◌, ◌*◌, ◌≤◌, sym, ◌∙◌, arith, rules}
+use Rattle.std.proofs.Common.{◌+◌, ◌*◌, sym, ◌∙◌, arith, rules}
 use Rattle.gsd_format.proofs.Bytes.{Same, le-further, le-more, same-yes, same-no}
 use Rattle.gsd_bytes.proofs.same_words.Goals as goal
 

@@ -1,6 +1,6 @@
 -- `gsd_bytes::same_words` meets its contract: the words passed are the same.
-use Rattle.std.proofs.Common.{◌+◌, ◌-◌, ◌*◌, ◌≤◌, sym, ◌∙◌, arith, rules}
-use Rattle.gsd_format.proofs.Bytes.{Same, le-further, le-more, same-yes, same-no}
+use Rattle.std.proofs.Common.{◌-◌, ◌*◌, ◌≤◌}
+use Rattle.gsd_format.proofs.Bytes.{Same}
 use Rattle.gsd_bytes.proofs.same_words.Given as goal
 
 abbrev pub invariant-loop-i : goal.invariant-loop-i

@@ -1,5 +1,5 @@
 -- `gsd_bytes::size_of` meets its contract: its table is that of the definition.
-use Rattle.std.proofs.Common.{◌≡◌, ℕ, suc, ◌≤◌, ◌⊎◌, sym, inl, inr, ⊎_elim, arith, rules}
+use Rattle.std.proofs.Common.{◌≡◌, ℕ, suc, ◌≤◌, ◌⊎◌, sym, inl, inr, ⊎_elim, arith}
 use Rattle.gsd_format.specs.Types.{size_of}
 use Rattle.gsd_format.proofs.Types.{size-at, size_none}
 use Rattle.gsd_bytes.proofs.size_of.Goals as goal

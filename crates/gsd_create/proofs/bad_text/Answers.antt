@@ -1,7 +1,6 @@
 -- `gsd_create::bad_text` meets its contract.
 use native.Mathlib.Nat.{sub-zero}
 use borrow.Author.Tests.{lt-ltb, le-ltb}
-use borrow.Author.Rules.{rules}
 use Rattle.gsd_create.proofs.bad_text.Goals as goal
 
 pub returns-then-t-gt-LONGEST_TEXT : goal.returns-then-t-gt-LONGEST_TEXT

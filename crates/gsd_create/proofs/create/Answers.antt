@@ -1,7 +1,6 @@
 -- `gsd_create::create` meets its contract: a number refuses and changes nothing, and 0 tells that the image has room.
 use mathlib.Core.Path.{◌≡◌, sym, ◌∙◌}
 use lib.ListN.{length}
-use borrow.Author.Rules.{rules}
 use Rattle.gsd_format.specs.Create.{create_number}
 use Rattle.gsd_format.proofs.Create.{takes, created-kept, created-made}
 use Rattle.gsd_create.proofs.create.Goals as goal
@@ -11,7 +10,7 @@ unfolding create_number
 returns-then-number-ne0 c =
     let x = c.args in
     let number : c.create_test-number.result ≡ create_number x.image.now x.application.now x.schema.now x.slots x.segments =
-        c.create_test-number.ensures ∙ rw (c.or_default-m.ensures, c.or_default-k.ensures) in
+    c.create_test-number.ensures ∙ rw (c.or_default-m.ensures, c.or_default-k.ensures) in
     record { number = number; image = sym (created-kept _ _ _ _ _ _ (λ e. c.if-number-ne0.true (number ∙ e))) }
 
 pub lay_out-requires : goal.lay_out-requires
@@ -27,7 +26,7 @@ unfolding create_number
 returns c =
     let x = c.args in
     let number : c.create_test-number.result ≡ create_number x.image.now x.application.now x.schema.now x.slots x.segments =
-        c.create_test-number.ensures ∙ rw (c.or_default-m.ensures, c.or_default-k.ensures) in
+    c.create_test-number.ensures ∙ rw (c.or_default-m.ensures, c.or_default-k.ensures) in
     let zero : create_number x.image.now x.application.now x.schema.now x.slots x.segments ≡ 0 =
     sym number ∙ c.if-number-ne0.false in
     record {

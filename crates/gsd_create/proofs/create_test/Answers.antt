@@ -3,7 +3,6 @@ use mathlib.Core.Path.{◌≡◌, sym, ◌∙◌}
 use native.Mathlib.Omega.{arith}
 use lib.Dec.{ltb}
 use borrow.Author.Tests.{lt-ltb, le-ltb}
-use borrow.Author.Rules.{rules}
 use Rattle.gsd_format.specs.Refusals.{◌⇒◌}
 use Rattle.gsd_format.specs.Create.{create_test, fresh_namelist_end}
 use Rattle.gsd_format.proofs.Create.{test-length, test-blocks, test-texts, test-room}
@@ -32,8 +31,8 @@ unfolding ◌⇒◌
 returns-then-len-namelist_place c =
     let x = c.args in
     let decides : create_test x.len x.application.now x.schema.now x.slots x.segments ≡ (ltb x.len (fresh_namelist_end x.slots x.segments) ⇒ 52) =
-        test-room _ _ _ _ _ (omega arith) (omega arith) (omega arith)
-        (sym c.bad_text.ensures ∙ c.if-bad_text.false) (sym c.bad_text-2.ensures ∙ c.if-bad_text-2.false) in
+    test-room _ _ _ _ _ (omega arith) (omega arith) (omega arith)
+    (sym c.bad_text.ensures ∙ c.if-bad_text.false) (sym c.bad_text-2.ensures ∙ c.if-bad_text-2.false) in
     sym (decides ∙ rw (sym c.namelist_place.ensures) (simp (lt-ltb _ _ c.if-len-namelist_place.true)))
 
 pub returns : goal.returns
@@ -41,6 +40,6 @@ unfolding ◌⇒◌
 returns c =
     let x = c.args in
     let decides : create_test x.len x.application.now x.schema.now x.slots x.segments ≡ (ltb x.len (fresh_namelist_end x.slots x.segments) ⇒ 52) =
-        test-room _ _ _ _ _ (omega arith) (omega arith) (omega arith)
-        (sym c.bad_text.ensures ∙ c.if-bad_text.false) (sym c.bad_text-2.ensures ∙ c.if-bad_text-2.false) in
+    test-room _ _ _ _ _ (omega arith) (omega arith) (omega arith)
+    (sym c.bad_text.ensures ∙ c.if-bad_text.false) (sym c.bad_text-2.ensures ∙ c.if-bad_text-2.false) in
     sym (decides ∙ rw (sym c.namelist_place.ensures) (simp (le-ltb _ _ c.if-len-namelist_place.false)))

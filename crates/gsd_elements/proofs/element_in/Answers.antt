@@ -1,7 +1,6 @@
 -- The chunk lies in the slice, so neither N times M nor an element's place wraps.
 use mathlib.Core.Path.{sym, ◌∙◌}
 use native.Mathlib.Omega.{arith}
-use borrow.Author.Rules.{rules}
 use Rattle.gsd_format.proofs.Types.{size-kind}
 use Rattle.gsd_format.proofs.Elements.{element-behind}
 use Rattle.gsd_elements.proofs.Elements.{few-elements, element-within, element-here}

@@ -7,7 +7,6 @@ use lib.IntN.{negsuc}
 use mir.Syntax.{w64}
 use mir.Facts.{to_z_pos}
 use Rattle.gsd_elements.proofs.Signed.{below-fits, below-read}
-use borrow.Author.Rules.{rules}
 use Rattle.gsd_elements.proofs.signed_of.Goals as goal
 
 pub returns-then-bits-half : goal.returns-then-bits-half

@@ -1,6 +1,5 @@
 -- A NaN's pattern reads as the one NaN, any other as its float.
 use lib.Ieee.{binary32, of_bits, div}
-use borrow.Author.Rules.{rules}
 use Rattle.gsd_format.specs.Elements.{nan_element}
 use Rattle.gsd_elements.proofs.Floats.{nan-of, no_nan}
 use Rattle.gsd_elements.proofs.single.Goals as goal

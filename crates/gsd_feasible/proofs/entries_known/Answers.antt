@@ -1,11 +1,7 @@
 -- `gsd_feasible::entries_known` meets its contract. Invariant: the entries passed are known.
-use Prim.Native.Nat.{◌-◌, ◌≤◌}
-use mathlib.Core.Path.{◌≡◌, sym, ◌∙◌}
-use mathlib.Core.Bool.{true}
+use mathlib.Core.Path.{sym, ◌∙◌}
 use native.Mathlib.Omega.{arith}
 use borrow.Author.Rules.{rules}
-use borrow.Author.Tests.{not-true, not-false}
-use Rattle.gsd_feasible.specs.Feasible.{all_below, entry_known}
 use Rattle.gsd_feasible.proofs.AllBelow.{one-fails, all_none, all_more, all_end}
 use Rattle.gsd_feasible.proofs.entries_known.Goals as goal
 

@@ -1,15 +1,8 @@
 -- `gsd_feasible::front_keeps` meets its contract. Invariant: the extents passed keep to image and sheet.
-use Prim.Native.Nat.{◌-◌, ◌≤◌}
-use mathlib.Core.Path.{◌≡◌, sym, ◌∙◌, ap}
-use mathlib.Core.Bool.{true}
+use mathlib.Core.Path.{sym, ◌∙◌, ap}
 use native.Mathlib.Omega.{arith}
-use lib.ListN.{get_or}
 use borrow.Author.Rules.{rules}
-use borrow.Author.Tests.{not-true, not-false}
 use Rattle.gsd_extents.specs.Exec.{keeps_to}
-use Rattle.gsd_extents.specs.Extents.{none}
-use Rattle.gsd_steps.specs.Steps.{front_of}
-use Rattle.gsd_feasible.specs.Feasible.{all_below}
 use Rattle.gsd_feasible.proofs.AllBelow.{one-fails, all_none, all_more, all_end}
 use Rattle.gsd_feasible.proofs.front_keeps.Goals as goal
 

@@ -1,8 +1,6 @@
 -- `gsd_feasible::is_feasible` meets its contract: the first test that fails decides, and those before the last make the front sound.
 use mathlib.Core.Path.{sym, ◌∙◌}
 use native.Mathlib.Nat.{le_trans}
-use borrow.Author.Tests.{not-true, not-false}
-use borrow.Author.Rules.{rules}
 use Rattle.gsd_feasible.specs.Feasible.{feasible}
 use Rattle.gsd_feasible.proofs.Plans.{counts-told, front-sound}
 use Rattle.gsd_feasible.proofs.is_feasible.Goals as goal

@@ -1,13 +1,8 @@
 -- `gsd_feasible::names_known` meets its contract. Invariant: the new names passed are of rows of the plan.
-use Prim.Native.Nat.{◌-◌, ◌≤◌}
-use mathlib.Core.Path.{◌≡◌, sym}
-use mathlib.Core.Bool.{true}
+use mathlib.Core.Path.{sym}
 use native.Mathlib.Omega.{arith}
-use lib.Dec.{ltb}
 use borrow.Author.Rules.{rules}
 use borrow.Author.Tests.{lt-ltb, le-ltb}
-use Rattle.gsd_sheet.specs.Columns.{new_row}
-use Rattle.gsd_feasible.specs.Feasible.{all_below}
 use Rattle.gsd_feasible.proofs.AllBelow.{one-fails, all_none, all_more, all_end}
 use Rattle.gsd_feasible.proofs.names_known.Goals as goal
 

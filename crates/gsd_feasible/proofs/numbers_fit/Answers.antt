@@ -1,5 +1,4 @@
 -- `gsd_feasible::numbers_fit` meets its contract.
-use borrow.Author.Rules.{rules}
 use Rattle.gsd_feasible.proofs.numbers_fit.Goals as goal
 
 pub returns : goal.returns

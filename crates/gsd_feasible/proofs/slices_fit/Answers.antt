@@ -1,5 +1,4 @@
 -- `gsd_feasible::slices_fit` meets its contract.
-use borrow.Author.Rules.{rules}
 use Rattle.gsd_feasible.proofs.slices_fit.Goals as goal
 
 pub returns : goal.returns

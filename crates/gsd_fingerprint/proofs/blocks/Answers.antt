@@ -1,8 +1,7 @@
 -- `gsd_fingerprint::blocks` meets its contract: each lane goes along its words.
-use Prim.Native.Nat.{◌-◌, ◌≤◌}
 use native.Mathlib.Omega.{arith}
 use borrow.Author.Rules.{rules}
-use Rattle.gsd_fingerprint.proofs.Lanes.{Lanes, along-none, along-more, blocks-none, blocks-all}
+use Rattle.gsd_fingerprint.proofs.Lanes.{along-none, along-more, blocks-none, blocks-all}
 use Rattle.gsd_fingerprint.proofs.blocks.Goals as goal
 
 pub returns-then-n-eq0 : goal.returns-then-n-eq0

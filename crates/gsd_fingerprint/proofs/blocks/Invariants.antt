@@ -1,8 +1,6 @@
 -- `gsd_fingerprint::blocks` meets its contract: each lane goes along its words.
 use Prim.Native.Nat.{◌-◌, ◌≤◌}
-use native.Mathlib.Omega.{arith}
-use borrow.Author.Rules.{rules}
-use Rattle.gsd_fingerprint.proofs.Lanes.{Lanes, along-none, along-more, blocks-none, blocks-all}
+use Rattle.gsd_fingerprint.proofs.Lanes.{Lanes}
 use Rattle.gsd_fingerprint.proofs.blocks.Given as goal
 
 abbrev pub invariant-loop-i : goal.invariant-loop-i

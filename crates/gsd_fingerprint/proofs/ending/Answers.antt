@@ -1,7 +1,6 @@
 -- `gsd_fingerprint::ending` meets its contract, case by case.
 use mathlib.Core.Path.{sym, ◌∙◌}
 use native.Mathlib.Omega.{arith}
-use borrow.Author.Rules.{rules}
 use Rattle.gsd_fingerprint.proofs.Lanes.{ending-eight, ending-four, ending-few, ending-none}
 use Rattle.gsd_fingerprint.proofs.ending.Goals as goal
 

@@ -1,5 +1,4 @@
 -- `gsd_fingerprint::fingerprint` meets its contract: each part is the definition's.
-use borrow.Author.Rules.{rules}
 use Rattle.gsd_fingerprint.specs.Fingerprint.{fingerprint}
 use Rattle.gsd_fingerprint.proofs.fingerprint.Goals as goal
 

@@ -1,6 +1,5 @@
 -- `gsd_fingerprint::mixed_at` meets its contract.
 use mathlib.Core.Path.{◌∙◌, ap}
-use borrow.Author.Rules.{rules}
 use Rattle.gsd_fingerprint.specs.Fingerprint.{mixed}
 use Rattle.gsd_fingerprint.proofs.mixed_at.Goals as goal
 

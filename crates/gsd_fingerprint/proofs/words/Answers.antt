@@ -1,8 +1,7 @@
 -- `gsd_fingerprint::words` meets its contract: the words left lead from the state so far to the lane's end.
-use Prim.Native.Nat.{◌-◌, ◌≤◌}
 use native.Mathlib.Omega.{arith}
 use borrow.Author.Rules.{rules}
-use Rattle.gsd_fingerprint.proofs.Lanes.{Along, along-none, along-more, along-all}
+use Rattle.gsd_fingerprint.proofs.Lanes.{along-none, along-more, along-all}
 use Rattle.gsd_fingerprint.proofs.words.Goals as goal
 
 pub loop-i-init : goal.loop-i-init

@@ -1,5 +1,4 @@
 -- `gsd_fresh::lay_out` meets its contract: its stores in a row are a fresh image.
-use borrow.Author.Rules.{rules}
 use Rattle.gsd_fresh.proofs.Fresh.{lay-out}
 use Rattle.gsd_fresh.proofs.lay_out.Goals as goal
 

@@ -1,6 +1,5 @@
 -- `gsd_fresh::put_filled` meets its contract: the text and the zeros in a row.
 use native.Mathlib.Omega.{arith}
-use borrow.Author.Rules.{rules}
 use Rattle.gsd_fresh.proofs.Fresh.{put-filled}
 use Rattle.gsd_fresh.proofs.put_filled.Goals as goal
 

@@ -1,5 +1,4 @@
 -- `gsd_fresh::put_numbers` meets its contract: its stores in a row.
-use borrow.Author.Rules.{rules}
 use Rattle.gsd_fresh.proofs.Fresh.{put-numbers}
 use Rattle.gsd_fresh.proofs.put_numbers.Goals as goal
 

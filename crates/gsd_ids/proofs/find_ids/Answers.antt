@@ -1,7 +1,6 @@
 -- `gsd_ids::find_ids` meets its contract.
 use mathlib.Core.Path.{sym, ◌∙◌}
 use native.Mathlib.Omega.{arith}
-use borrow.Author.Rules.{rules}
 use Rattle.gsd_stores.proofs.Sheet.{rows-count}
 use Rattle.gsd_sheet.proofs.Columns.{kept_trans}
 use Rattle.gsd_ids.proofs.RowIds.{ids-found}

@@ -1,5 +1,4 @@
 -- `gsd_ids::id_of` meets its contract.
-use borrow.Author.Rules.{rules}
 use Rattle.gsd_ids.proofs.id_of.Goals as goal
 
 pub name_id-requires : goal.name_id-requires

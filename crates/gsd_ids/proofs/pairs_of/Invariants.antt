@@ -1,9 +1,6 @@
 -- `gsd_ids::pairs_of` meets its contract. Invariant: the first i pairs are taken.
 use Prim.Native.Nat.{◌-◌, ◌≤◌}
-use native.Mathlib.Omega.{arith}
-use borrow.Author.Rules.{rules}
 use Rattle.gsd_ids.specs.RowIds.{PairsTaken}
-use Rattle.gsd_ids.proofs.RowIds.{taken_none, taken_more, taken-to}
 use Rattle.gsd_ids.proofs.pairs_of.Given as goal
 
 abbrev pub invariant-loop-i : goal.invariant-loop-i

@@ -1,9 +1,6 @@
 -- `gsd_ids::put_pairs` meets its contract. Invariant: the first i pairs are put.
 use Prim.Native.Nat.{◌-◌, ◌≤◌}
-use native.Mathlib.Omega.{arith}
-use borrow.Author.Rules.{rules}
 use Rattle.gsd_ids.specs.RowIds.{PairsPut}
-use Rattle.gsd_ids.proofs.RowIds.{put-none, put-more, put-to}
 use Rattle.gsd_ids.proofs.put_pairs.Given as goal
 
 abbrev pub invariant-loop-i : goal.invariant-loop-i

@@ -1,5 +1,5 @@
 -- `gsd_lines::line_end` meets its contract.
-use Rattle.std.proofs.Common.{◌-◌, ◌≤◌, arith, rules}
+use Rattle.std.proofs.Common.{arith}
 use Rattle.gsd_lines.proofs.line_end.Goals as goal
 
 pub returns-then-table-i-eq10 : goal.returns-then-table-i-eq10

@@ -1,5 +1,5 @@
 -- `gsd_lines::read_line` is safe and ends: the table keeps its length.
-use Rattle.std.proofs.Common.{◌≡◌, ◌-◌, ◌≤◌, length, rules}
+use Rattle.std.proofs.Common.{◌≡◌, ◌-◌, ◌≤◌, length}
 use Rattle.gsd_lines.proofs.read_line.Given as goal
 
 abbrev pub invariant-loop-i : goal.invariant-loop-i

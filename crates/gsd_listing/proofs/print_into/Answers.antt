@@ -1,7 +1,6 @@
 -- `gsd_listing::print_into` meets its contract.
 use mathlib.Core.Path.{refl, sym, ◌∙◌}
 use native.Mathlib.Omega.{arith}
-use borrow.Author.Rules.{rules}
 use Rattle.gsd_format.specs.Ascii.{ascii}
 use Rattle.gsd_format.proofs.Bytes.{stored-front}
 use Rattle.gsd_format.proofs.Listing.{printed-short, printed-long}

@@ -1,14 +1,10 @@
 -- `gsd_listing::put_entries` meets its contract: the text so far and the lines still to be put make the same text at each turn.
-use Prim.Native.Nat.{◌+◌, ◌*◌, ◌-◌, ◌≤◌, ◌<◌}
-use mathlib.Core.Path.{◌≡◌, refl, sym, ◌∙◌, ap}
-use mathlib.Core.List.{◌++◌, append-nil}
-use native.Mathlib.Omega.{arith}
+use Prim.Native.Nat.{◌+◌, ◌*◌, ◌-◌, ◌≤◌}
+use mathlib.Core.Path.{◌≡◌}
+use mathlib.Core.List.{◌++◌}
 use lib.ListN.{length, take, drop}
-use borrow.Author.Rules.{rules}
 use Rattle.gsd_format.specs.Entries.{entries_of}
-use Rattle.gsd_format.specs.Listing.{entry_line, entry_lines}
-use Rattle.gsd_format.proofs.Listing.{lines-put, lines-last}
-use Rattle.gsd_open.proofs.Surveys.{slot-within, slot-entry}
+use Rattle.gsd_format.specs.Listing.{entry_lines}
 use Rattle.gsd_listing.proofs.put_entries.Given as goal
 
 abbrev pub invariant-loop-i : goal.invariant-loop-i

@@ -3,7 +3,6 @@ use mathlib.Core.Path.{sym, ◌∙◌}
 use native.Mathlib.Omega.{arith}
 use Rattle.gsd_read.proofs.Lookups.{found-sound, found-held}
 use Rattle.gsd_nchilada.proofs.Requests.{of-found, of-refused}
-use borrow.Author.Rules.{rules}
 use Rattle.gsd_nchilada.proofs.nchilada.Goals as goal
 
 pub write_file-requires : goal.write_file-requires

@@ -4,7 +4,6 @@ use Rattle.gsd_format.specs.declared.Opening.{Opening}
 use mathlib.Core.Path.{refl, ap, ◌∙◌}
 use Rattle.gsd_format.specs.Answers.{opening_number, opening_values}
 use Rattle.gsd_out.specs.Out.{answered}
-use borrow.Author.Rules.{rules}
 use Rattle.gsd_out.proofs.put_counts.Goals as goal
 
 pub returns-in-Open : goal.returns-in-Open

@@ -7,7 +7,6 @@ use Rattle.gsd_format.specs.declared.Element.{Element}
 use Rattle.gsd_format.specs.Answers.{element_number, element_values, bits64}
 use Rattle.gsd_out.specs.Out.{answered}
 use Rattle.gsd_out.proofs.Refusals.{left}
-use borrow.Author.Rules.{rules}
 use Rattle.gsd_out.proofs.put_element.Goals as goal
 
 pub returns-in-Unsigned : goal.returns-in-Unsigned

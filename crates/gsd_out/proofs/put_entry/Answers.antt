@@ -4,7 +4,6 @@ use Rattle.gsd_format.specs.declared.Listed.{Listed}
 use Rattle.gsd_format.specs.Answers.{listed_number, listed_values}
 use Rattle.gsd_out.specs.Out.{answered}
 use Rattle.gsd_out.proofs.Refusals.{left}
-use borrow.Author.Rules.{rules}
 use Rattle.gsd_out.proofs.put_entry.Goals as goal
 
 pub returns-in-Found : goal.returns-in-Found

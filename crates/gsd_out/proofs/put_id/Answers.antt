@@ -4,7 +4,6 @@ use Rattle.gsd_format.specs.declared.Ident.{Ident}
 use Rattle.gsd_format.specs.Answers.{ident_number, ident_values}
 use Rattle.gsd_out.specs.Out.{answered}
 use Rattle.gsd_out.proofs.Refusals.{left}
-use borrow.Author.Rules.{rules}
 use Rattle.gsd_out.proofs.put_id.Goals as goal
 
 pub returns-in-Is : goal.returns-in-Is

@@ -4,7 +4,6 @@ use Rattle.gsd_format.specs.declared.Place.{Place}
 use Rattle.gsd_format.specs.Answers.{place_number, place_values}
 use Rattle.gsd_out.specs.Out.{answered}
 use Rattle.gsd_out.proofs.Refusals.{left}
-use borrow.Author.Rules.{rules}
 use Rattle.gsd_out.proofs.put_part.Goals as goal
 
 pub returns-in-At : goal.returns-in-At

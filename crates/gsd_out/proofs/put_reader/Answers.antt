@@ -4,7 +4,6 @@ use Rattle.gsd_format.specs.declared.Reading.{Reading}
 use Rattle.gsd_format.specs.Answers.{reading_number, reading_values}
 use Rattle.gsd_out.specs.Out.{answered}
 use Rattle.gsd_out.proofs.Refusals.{left}
-use borrow.Author.Rules.{rules}
 use Rattle.gsd_out.proofs.put_reader.Goals as goal
 
 pub returns-in-Ready : goal.returns-in-Ready

@@ -1,7 +1,6 @@
 -- The place lies in the image; a refusal has no bytes.
 use mathlib.Core.Path.{sym, ◌∙◌}
 use native.Mathlib.Omega.{arith}
-use borrow.Author.Rules.{rules}
 use Rattle.gsd_parts.proofs.Parts.{inside-at, bytes-at, bytes-none, lies_at, lies-anywhere}
 use Rattle.gsd_parts.proofs.part_at.Goals as goal
 

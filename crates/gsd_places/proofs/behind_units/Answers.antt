@@ -1,6 +1,5 @@
 -- `gsd_places::behind_units` meets its contract.
 use native.Mathlib.Omega.{arith}
-use borrow.Author.Rules.{rules}
 use borrow.Author.Tests.{eq-eqb, ne_eqb}
 use Rattle.gsd_places.proofs.behind_units.Goals as goal
 

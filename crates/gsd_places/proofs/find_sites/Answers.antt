@@ -1,6 +1,5 @@
 -- `gsd_places::find_sites` meets its contract.
 use mathlib.Core.Path.{ap, ◌∙◌}
-use borrow.Author.Rules.{rules}
 use Rattle.gsd_format.specs.Header.{aligned}
 use Rattle.gsd_places.specs.Sites.{behind_units}
 use Rattle.gsd_places.proofs.find_sites.Goals as goal

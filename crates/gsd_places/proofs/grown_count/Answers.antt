@@ -1,8 +1,7 @@
 -- `gsd_places::grown_count` meets its contract. Invariant: doubling goes on to the same count.
-use Prim.Native.Nat.{◌*◌, ◌-◌, ◌≤◌, max}
-use mathlib.Core.Path.{◌≡◌, refl, sym, ap, ◌∙◌}
+use Prim.Native.Nat.{◌*◌}
+use mathlib.Core.Path.{refl, sym, ap, ◌∙◌}
 use native.Mathlib.Omega.{arith}
-use borrow.Author.Rules.{rules}
 use Rattle.gsd_stores.specs.Plan.{doubled}
 use Rattle.gsd_stores.proofs.Plan.{doubled-done}
 use Rattle.gsd_places.proofs.Growing.{doubled-step}

@@ -1,11 +1,7 @@
 -- `gsd_places::grown_count` meets its contract. Invariant: doubling goes on to the same count.
 use Prim.Native.Nat.{◌*◌, ◌-◌, ◌≤◌, max}
-use mathlib.Core.Path.{◌≡◌, refl, sym, ap, ◌∙◌}
-use native.Mathlib.Omega.{arith}
-use borrow.Author.Rules.{rules}
+use mathlib.Core.Path.{◌≡◌}
 use Rattle.gsd_stores.specs.Plan.{doubled}
-use Rattle.gsd_stores.proofs.Plan.{doubled-done}
-use Rattle.gsd_places.proofs.Growing.{doubled-step}
 use Rattle.gsd_places.proofs.grown_count.Given as goal
 
 abbrev pub invariant-loop-count : goal.invariant-loop-count

@@ -1,7 +1,6 @@
 -- `gsd_places::new_count` meets its contract.
 use mathlib.Core.Path.{◌∙◌}
 use native.Mathlib.Omega.{arith}
-use borrow.Author.Rules.{rules}
 use Rattle.gsd_places.proofs.new_count.Goals as goal
 
 pub returns-then-moves : goal.returns-then-moves

@@ -1,8 +1,6 @@
 -- `gsd_places::place_data` meets its contract. Invariant: the rows before the i-th have their places.
 use Prim.Native.Nat.{◌-◌}
-use native.Mathlib.Omega.{arith}
-use borrow.Author.Rules.{rules}
-use Rattle.gsd_places.proofs.Places.{Placing, placing-none, placing-room, placing-more, placing-all}
+use Rattle.gsd_places.proofs.Places.{Placing}
 use Rattle.gsd_places.proofs.place_data.Given as goal
 
 abbrev pub invariant-loop-i : goal.invariant-loop-i

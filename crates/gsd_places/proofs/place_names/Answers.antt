@@ -1,8 +1,6 @@
 -- `gsd_places::place_names` meets its contract. Invariant: the new names before the j-th have their places.
-use Prim.Native.Nat.{◌-◌}
 use native.Mathlib.Omega.{arith}
-use borrow.Author.Rules.{rules}
-use Rattle.gsd_places.proofs.Places.{Naming, naming-none, naming-small, naming-room, naming-more, naming-all}
+use Rattle.gsd_places.proofs.Places.{naming-none, naming-small, naming-room, naming-more, naming-all}
 use Rattle.gsd_places.proofs.place_names.Goals as goal
 
 pub loop-j-init : goal.loop-j-init

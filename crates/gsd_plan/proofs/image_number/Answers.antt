@@ -1,6 +1,5 @@
 -- `gsd_plan::image_number` meets its contract.
 use mathlib.Core.Path.{sym, ◌∙◌}
-use borrow.Author.Rules.{rules}
 use Rattle.gsd_plan.proofs.Tests.{image-10, odd_index, odd-names, frames-full, image-good}
 use Rattle.gsd_plan.proofs.image_number.Goals as goal
 

@@ -1,6 +1,5 @@
 -- `gsd_plan::plan_append` meets its contract.
 use mathlib.Core.Path.{refl, sym, ◌∙◌}
-use borrow.Author.Rules.{rules}
 use Rattle.gsd_plan.proofs.Tests.{not_opened, image-recent, bad-image, bad-sheet, good-sheet, plans-same}
 use Rattle.gsd_plan.proofs.plan_append.Goals as goal
 

@@ -1,7 +1,6 @@
 -- `gsd_plan::plan_names` meets its contract.
 use mathlib.Core.Path.{refl, ◌∙◌}
 use native.Mathlib.Omega.{arith}
-use borrow.Author.Rules.{rules}
 use Rattle.gsd_stores.proofs.Sheet.{accepted}
 use Rattle.gsd_sheet.proofs.Rows.{located-kept}
 use Rattle.gsd_plan.proofs.Image.{sees, listed-many, listed-are, listed-spans}

@@ -1,7 +1,6 @@
 -- What passes the tests is written, and a refusal writes nothing.
 use mathlib.Core.Path.{sym, ◌∙◌}
 use Rattle.gsd_format.proofs.Refusals.{not-accepted, was-accepted}
-use borrow.Author.Rules.{rules}
 use Rattle.gsd_rawarray.proofs.rawarray_read.Goals as goal
 
 pub returns-then-number-ne0 : goal.returns-then-number-ne0

@@ -2,7 +2,6 @@
 use mathlib.Core.Path.{sym, ◌∙◌}
 use Rattle.gsd_read.proofs.Lookups.{found-held}
 use Rattle.gsd_rawarray.proofs.Files.{of-found, of-refused}
-use borrow.Author.Rules.{rules}
 use Rattle.gsd_rawarray.proofs.rawarray_write.Goals as goal
 
 pub write_file-requires : goal.write_file-requires

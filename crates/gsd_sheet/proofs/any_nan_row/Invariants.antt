@@ -1,14 +1,8 @@
 -- `gsd_sheet::any_nan_row` meets its contract.
 use Prim.Native.Nat.{◌-◌, ◌≤◌}
-use mathlib.Core.Path.{◌≡◌, refl, sym, ◌∙◌}
-use mathlib.Core.Bool.{true, false}
-use native.Mathlib.Omega.{arith}
-use lib.ListN.{get_or, drop}
-use borrow.Author.Rules.{rules}
-use Rattle.gsd_format.proofs.Lists.{one-next, one_end}
-use Rattle.gsd_stores.specs.Sheet.{rows_of, nan_row, any_nan_row}
-use Rattle.gsd_stores.specs.Demand3.{no_row}
-use Rattle.gsd_stores.proofs.Sheet.{rows-count}
+use mathlib.Core.Path.{◌≡◌}
+use lib.ListN.{drop}
+use Rattle.gsd_stores.specs.Sheet.{rows_of, any_nan_row}
 use Rattle.gsd_sheet.proofs.any_nan_row.Given as goal
 
 abbrev pub invariant-loop-i : goal.invariant-loop-i

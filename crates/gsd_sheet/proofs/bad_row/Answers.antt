@@ -1,7 +1,5 @@
 -- `gsd_sheet::bad_row` meets its contract.
 use mathlib.Core.Path.{sym, ◌∙◌}
-use borrow.Author.Rules.{rules}
-use borrow.Author.Tests.{not-true, not-false}
 use Rattle.gsd_stores.specs.Sheet.{row_at}
 use Rattle.gsd_sheet.proofs.Rows.{kind-known, bad_kind, bad-name, bad-spare}
 use Rattle.gsd_sheet.proofs.bad_row.Goals as goal

@@ -1,11 +1,10 @@
 -- `gsd_sheet::bad_table` meets its contract.
-use Prim.Native.Nat.{◌-◌, ◌≤◌}
 use mathlib.Core.Path.{◌≡◌, sym, ◌∙◌}
 use mathlib.Core.Bool.{true, false}
 use native.Mathlib.Nat.{sub-zero}
 use native.Mathlib.Omega.{arith}
 use borrow.Author.Rules.{rules}
-use Rattle.gsd_stores.specs.Sheet.{bad_row, bad_table, row_at}
+use Rattle.gsd_stores.specs.Sheet.{bad_row, row_at}
 use Rattle.gsd_sheet.proofs.Rows.{bad-next, bad-none}
 use Rattle.gsd_sheet.proofs.bad_table.Goals as goal
 

@@ -9,7 +9,7 @@ pub returns-then-exceeds : goal.returns-then-exceeds
 returns-then-exceeds c =
     let h = sym c.exceeds.ensures ∙ c.if-exceeds.true in
     let product : c.row_n-n.result * c.row_size-each.result ≡ body_size c.args.sheet.now (row_at c.args.i) =
-        rw (c.row_n-n.ensures, c.row_size-each.ensures.answer) (body-product c.args.sheet.now (row_at c.args.i)) in
+    rw (c.row_n-n.ensures, c.row_size-each.ensures.answer) (body-product c.args.sheet.now (row_at c.args.i)) in
     omega (arith, ltb-true, product)
 
 pub overflow_mul-result : goal.overflow_mul-result
@@ -26,5 +26,5 @@ pub returns : goal.returns
 returns c =
     let h = sym c.exceeds.ensures ∙ c.if-exceeds.false in
     let product : c.row_n-n.result * c.row_size-each.result ≡ body_size c.args.sheet.now (row_at c.args.i) =
-        rw (c.row_n-n.ensures, c.row_size-each.ensures.answer) (body-product c.args.sheet.now (row_at c.args.i)) in
+    rw (c.row_n-n.ensures, c.row_size-each.ensures.answer) (body-product c.args.sheet.now (row_at c.args.i)) in
     omega (arith, ltb-false, product)

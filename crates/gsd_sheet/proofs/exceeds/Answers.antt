@@ -4,7 +4,6 @@ use native.Mathlib.Nat.{mul-zero}
 use native.Mathlib.Omega.{arith}
 use Rattle.gsd_sheet.proofs.Rows.{quotient-tells, product-fits}
 use borrow.Author.Tests.{le-ltb}
-use borrow.Author.Rules.{rules}
 use Rattle.gsd_sheet.proofs.exceeds.Goals as goal
 
 pub overflow_mul-result : goal.overflow_mul-result

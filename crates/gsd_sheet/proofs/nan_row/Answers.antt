@@ -1,7 +1,6 @@
 -- `gsd_sheet::nan_row` meets its contract.
 use mathlib.Core.Path.{refl, sym, ◌∙◌}
 use native.Mathlib.Omega.{arith}
-use borrow.Author.Rules.{rules}
 use Rattle.gsd_format.specs.Types.{size_of}
 use Rattle.gsd_format.proofs.Elements.{nan-none}
 use Rattle.gsd_sheet.proofs.Rows.{located_end, located-row, located-kind, located-nan}

@@ -1,13 +1,7 @@
 -- `gsd_sheet::repeated` meets its contract.
 use Prim.Native.Nat.{ℕ, ◌-◌, ◌≤◌, ◌<◌}
-use mathlib.Core.Path.{◌≡◌, sym, ◌∙◌}
-use mathlib.Core.Bool.{true≢false}
-use native.Mathlib.Omega.{arith}
-use borrow.Author.Count.{below_more}
-use borrow.Author.Rules.{rules}
-use Rattle.gsd_format.proofs.Bytes.{same-eq, eq-same}
-use Rattle.gsd_sheet.specs.Rows.{sheet_names, name_of}
-use Rattle.gsd_sheet.proofs.Rows.{names-count, repeats-yes, repeats-no}
+use mathlib.Core.Path.{◌≡◌}
+use Rattle.gsd_sheet.specs.Rows.{name_of}
 use Rattle.gsd_sheet.proofs.repeated.Given as goal
 
 abbrev pub invariant-loop-j : goal.invariant-loop-j

@@ -1,7 +1,6 @@
 -- `gsd_sheet::row_size` meets its contract.
 use Prim.Native.Nat.{◌*◌, ◌<◌}
 use native.Mathlib.Omega.{arith}
-use borrow.Author.Rules.{rules}
 use Rattle.gsd_stores.specs.Sheet.{row_at}
 use Rattle.gsd_sheet.proofs.Rows.{kind-size, size-bound}
 use Rattle.gsd_sheet.proofs.row_size.Goals as goal

@@ -1,6 +1,5 @@
 -- `gsd_sheet::rows_number` meets its contract.
 use mathlib.Core.Path.{sym, ◌∙◌}
-use borrow.Author.Rules.{rules}
 use Rattle.gsd_format.proofs.Refusals.{decides, goes_on, met, passed}
 use Rattle.gsd_sheet.specs.Rows.{rows_test}
 use Rattle.gsd_sheet.proofs.rows_number.Goals as goal

@@ -5,7 +5,6 @@ use lib.ListN.{length}
 use Rattle.gsd_format.proofs.Bytes.{ne_same}
 use Rattle.gsd_sheet.specs.Rows.{name_of}
 use Rattle.gsd_sheet.proofs.Rows.{located-room, located-name, located-length}
-use borrow.Author.Rules.{rules}
 use Rattle.gsd_sheet.proofs.same_name.Goals as goal
 
 pub overflow_sub-n : goal.overflow_sub-n

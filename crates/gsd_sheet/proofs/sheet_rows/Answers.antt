@@ -3,7 +3,6 @@ use mathlib.Core.Path.{◌≡◌, sym, ◌∙◌}
 use native.Mathlib.Omega.{arith}
 use Rattle.gsd_sheet.specs.Rows.{table_test, end_test}
 use Rattle.gsd_sheet.proofs.Rows.{Tabled, tabled, number-table, number-end, number-rows}
-use borrow.Author.Rules.{rules}
 use Rattle.gsd_sheet.proofs.sheet_rows.Goals as goal
 
 pub returns-then-number-ne0 : goal.returns-then-number-ne0

@@ -2,7 +2,6 @@
 use mathlib.Core.Path.{◌≡◌, sym, ◌∙◌}
 use mathlib.Core.Bool.{true, false}
 use native.Mathlib.Omega.{arith}
-use borrow.Author.Rules.{rules}
 use Rattle.gsd_format.specs.Refusals.{◌⇒◌}
 use Rattle.gsd_stores.specs.Sheet.{bad_table, row_count}
 use Rattle.gsd_sheet.proofs.Rows.{table-short, table_none, table-many, table-cut, table-whole}

@@ -1,12 +1,8 @@
 -- `gsd_sheet::twin_named` meets its contract.
 use Prim.Native.Nat.{ℕ, ◌-◌, ◌≤◌, ◌<◌}
-use mathlib.Core.Path.{◌≡◌, sym, ◌∙◌}
+use mathlib.Core.Path.{◌≡◌}
 use mathlib.Core.Bool.{false}
-use native.Mathlib.Omega.{arith}
-use borrow.Author.Count.{below_more}
-use borrow.Author.Rules.{rules}
 use Rattle.gsd_sheet.specs.Rows.{sheet_names, repeats}
-use Rattle.gsd_sheet.proofs.Rows.{names-count, twins-yes, twins-no}
 use Rattle.gsd_sheet.proofs.twin_named.Given as goal
 
 abbrev pub invariant-loop-i : goal.invariant-loop-i

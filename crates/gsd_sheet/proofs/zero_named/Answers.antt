@@ -1,13 +1,11 @@
 -- `gsd_sheet::zero_named` meets its contract.
-use Prim.Native.Nat.{◌-◌, ◌≤◌}
 use mathlib.Core.Path.{◌≡◌, refl, sym, ◌∙◌}
 use mathlib.Core.Bool.{true, false}
 use mathlib.Core.List.{[]}
 use native.Mathlib.Omega.{arith}
-use lib.ListN.{length, drop}
+use lib.ListN.{length}
 use Rattle.gsd_format.specs.Bytes.{zero_in}
 use Rattle.gsd_format.proofs.Lists.{one-next, one_end}
-use Rattle.gsd_stores.specs.Sheet.{any_zero}
 use Rattle.gsd_sheet.specs.Rows.{sheet_names, name_of}
 use Rattle.gsd_sheet.proofs.Rows.{names-count, located-room, located-zero}
 use borrow.Author.Rules.{rules}

@@ -1,16 +1,9 @@
 -- `gsd_sheet::zero_named` meets its contract.
 use Prim.Native.Nat.{◌-◌, ◌≤◌}
-use mathlib.Core.Path.{◌≡◌, refl, sym, ◌∙◌}
-use mathlib.Core.Bool.{true, false}
-use mathlib.Core.List.{[]}
-use native.Mathlib.Omega.{arith}
-use lib.ListN.{length, drop}
-use Rattle.gsd_format.specs.Bytes.{zero_in}
-use Rattle.gsd_format.proofs.Lists.{one-next, one_end}
+use mathlib.Core.Path.{◌≡◌}
+use lib.ListN.{drop}
 use Rattle.gsd_stores.specs.Sheet.{any_zero}
-use Rattle.gsd_sheet.specs.Rows.{sheet_names, name_of}
-use Rattle.gsd_sheet.proofs.Rows.{names-count, located-room, located-zero}
-use borrow.Author.Rules.{rules}
+use Rattle.gsd_sheet.specs.Rows.{sheet_names}
 use Rattle.gsd_sheet.proofs.zero_named.Given as goal
 
 abbrev pub invariant-loop-i : goal.invariant-loop-i

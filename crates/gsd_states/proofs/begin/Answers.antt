@@ -1,5 +1,4 @@
 -- `gsd_states::begin` meets its contract.
-use borrow.Author.Rules.{rules}
 use mathlib.Core.Path.{sym, ◌∙◌}
 use Rattle.gsd_states.specs.States.{plan_in}
 use Rattle.gsd_states.proofs.Begins.{refused-begins, began-front, began-count, accepted-begins}

@@ -1,8 +1,6 @@
 -- `gsd_states::fits` meets its contract.
-use borrow.Author.Rules.{rules}
 use mathlib.Core.Path.{sym, ◌∙◌}
 use mathlib.Core.Bool.{true≢false}
-use borrow.Author.Tests.{not-true, not-false}
 use Rattle.gsd_feasible.proofs.Plans.{feasible-long}
 use Rattle.gsd_states.specs.States.{plan_in}
 use Rattle.gsd_states.proofs.States.{Told, fits_not, fits-header}

@@ -1,5 +1,4 @@
 -- `gsd_states::same_header` meets its contract.
-use borrow.Author.Rules.{rules}
 use mathlib.Core.Bool.{◌&&◌}
 use lib.Dec.{eqb}
 use Rattle.gsd_states.specs.States.{header_in}

@@ -1,5 +1,4 @@
 -- `gsd_steps::data_extent` meets its contract.
-use borrow.Author.Rules.{rules}
 use Prim.Native.Nat.{◌+◌, ◌/◌}
 use mathlib.Core.Path.{◌∙◌, ap}
 use Rattle.gsd_sheet.specs.Columns.{name_from, data_from, data_to}

@@ -1,5 +1,4 @@
 -- `gsd_steps::entry_word` meets its contract.
-use borrow.Author.Rules.{rules}
 use mathlib.Core.Path.{◌≡◌}
 use native.Mathlib.Omega.{arith}
 use Rattle.gsd_steps.specs.Steps.{of_four}

@@ -1,5 +1,4 @@
 -- `gsd_steps::extent_at` meets its contract.
-use borrow.Author.Rules.{rules}
 use mathlib.Core.Path.{sym, ◌∙◌}
 use native.Mathlib.Omega.{arith}
 use Rattle.gsd_steps.proofs.Steps.{at_front, at_entry}

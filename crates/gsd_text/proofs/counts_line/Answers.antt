@@ -1,5 +1,4 @@
 -- `gsd_text::counts_line` meets its contract: three labels and numbers, each put behind the ones before.
-use borrow.Author.Rules.{rules}
 use Rattle.gsd_format.specs.Ascii.{ascii}
 use Rattle.gsd_format.specs.Listing.{counts_line}
 use Rattle.gsd_text.proofs.counts_line.Goals as goal

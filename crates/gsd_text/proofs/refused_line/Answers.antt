@@ -1,5 +1,4 @@
 -- `gsd_text::refused_line` meets its contract.
-use borrow.Author.Rules.{rules}
 use Rattle.gsd_format.specs.Ascii.{ascii}
 use Rattle.gsd_format.specs.Listing.{fields}
 use Rattle.gsd_text.proofs.refused_line.Goals as goal

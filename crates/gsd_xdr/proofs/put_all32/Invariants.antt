@@ -1,12 +1,9 @@
 -- After i rounds the first i numbers are stored.
 use Prim.Native.Nat.{◌-◌, ◌≤◌}
-use mathlib.Core.Path.{◌≡◌, refl}
-use native.Mathlib.Omega.{arith}
+use mathlib.Core.Path.{◌≡◌}
 use lib.ListN.{length}
 use Rattle.gsd_format.specs.Bytes.{stored}
 use Rattle.gsd_xdr.specs.Xdr.{be_row, numbers}
-use Rattle.gsd_xdr.proofs.Xdr.{store-next, store-all}
-use borrow.Author.Rules.{rules}
 use Rattle.gsd_xdr.proofs.put_all32.Given as goal
 
 abbrev pub invariant-loop-i : goal.invariant-loop-i

@@ -1,7 +1,6 @@
 -- The pairs are stored, and then the odd last number.
 use native.Mathlib.Omega.{arith}
 use Rattle.gsd_xdr.proofs.Xdr.{store-next, store-all, number_is}
-use borrow.Author.Rules.{rules}
 use Rattle.gsd_xdr.proofs.put_all64.Goals as goal
 
 pub returns-then-n-eq0 : goal.returns-then-n-eq0

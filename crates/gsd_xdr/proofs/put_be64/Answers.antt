@@ -1,7 +1,6 @@
 -- The number turned round is stored little-endian.
 use mathlib.Core.Path.{◌∙◌, ap}
 use Rattle.gsd_format.specs.Bytes.{stored}
-use borrow.Author.Rules.{rules}
 use Rattle.gsd_xdr.proofs.put_be64.Goals as goal
 
 pub returns : goal.returns

@@ -1,10 +1,9 @@
 -- After i rounds the first i pairs are stored.
-use Prim.Native.Nat.{◌+◌, ◌*◌, ◌-◌, ◌≤◌}
-use mathlib.Core.Path.{◌≡◌, refl}
+use Prim.Native.Nat.{◌+◌, ◌*◌}
+use mathlib.Core.Path.{refl}
 use native.Mathlib.Omega.{arith}
-use lib.ListN.{length}
 use Rattle.gsd_format.specs.Bytes.{stored}
-use Rattle.gsd_xdr.specs.Xdr.{be_row, numbers}
+use Rattle.gsd_xdr.specs.Xdr.{be_row}
 use Rattle.gsd_xdr.proofs.Xdr.{store-next, store-all, number_is}
 use borrow.Author.Rules.{rules}
 use Rattle.gsd_xdr.proofs.put_pairs64.Goals as goal

@@ -4,7 +4,6 @@ use mathlib.Core.Path.{refl}
 use Rattle.gsd_format.specs.Bytes.{le_bytes}
 use Rattle.gsd_xdr.specs.Xdr.{be_bytes}
 use Rattle.gsd_xdr.proofs.Xdr.{turn-halves}
-use borrow.Author.Rules.{rules}
 use Rattle.gsd_xdr.proofs.turned16.Goals as goal
 
 pub returns : goal.returns

@@ -1,7 +1,6 @@
 -- The halves, each turned round and exchanged, are the whole turned round.
 use native.Mathlib.Omega.{arith}
 use Rattle.gsd_xdr.proofs.Xdr.{turn-halves}
-use borrow.Author.Rules.{rules}
 use Rattle.gsd_xdr.proofs.turned32.Goals as goal
 
 pub returns : goal.returns

@@ -1,6 +1,5 @@
 -- The halves, each turned round and exchanged, are the whole turned round.
 use Rattle.gsd_xdr.proofs.Xdr.{turn-halves}
-use borrow.Author.Rules.{rules}
 use Rattle.gsd_xdr.proofs.turned64.Goals as goal
 
 pub returns : goal.returns

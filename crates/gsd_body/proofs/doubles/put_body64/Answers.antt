@@ -3,7 +3,6 @@ use mathlib.Core.Path.{refl}
 use native.Mathlib.Nat.{mul-one}
 use native.Mathlib.Omega.{arith}
 use Rattle.gsd_body.proofs.Bodies.{second-of, body-as}
-use borrow.Author.Rules.{rules}
 use Rattle.gsd_body.proofs.doubles.put_body64.Goals as goal
 
 pub put_column64-requires : goal.put_column64-requires

@@ -4,7 +4,6 @@ use Rattle.gsd_format.specs.Bytes.{stored}
 use Rattle.gsd_format.specs.Types.{size_of}
 use Rattle.gsd_xdr.specs.Xdr.{be_bytes}
 use Rattle.gsd_body.proofs.Bodies.{store-more, body-three}
-use borrow.Author.Rules.{rules}
 use Rattle.gsd_body.proofs.doubles.put_columns64.Goals as goal
 
 pub returns : goal.returns

@@ -3,7 +3,6 @@ use mathlib.Core.Path.{refl}
 use native.Mathlib.Nat.{mul-one}
 use native.Mathlib.Omega.{arith}
 use Rattle.gsd_body.proofs.Bodies.{second-of, body-as}
-use borrow.Author.Rules.{rules}
 use Rattle.gsd_body.proofs.singles.put_body32.Goals as goal
 
 pub put_column32-requires : goal.put_column32-requires

@@ -1,7 +1,6 @@
 -- A float's bits are a number of 32 bits.
 use native.Mathlib.Omega.{arith}
 use Rattle.gsd_body.proofs.Bodies.{bits-bound}
-use borrow.Author.Rules.{rules}
 use Rattle.gsd_body.proofs.singles.put_f32.Goals as goal
 
 pub overflow_cast-x : goal.overflow_cast-x

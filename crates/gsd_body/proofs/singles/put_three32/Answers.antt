@@ -2,7 +2,6 @@
 use mathlib.Core.Path.{refl}
 use Rattle.gsd_xdr.specs.Xdr.{be_bytes}
 use Rattle.gsd_body.proofs.Bodies.{store-more}
-use borrow.Author.Rules.{rules}
 use Rattle.gsd_body.proofs.singles.put_three32.Goals as goal
 
 pub returns : goal.returns

@@ -1,9 +1,6 @@
 -- `gsd_bytes::floats::any_nan32` meets its contract: a sign has turned among the elements passed where one of them is a NaN.
-use Rattle.std.proofs.Common.{◌≡◌, ◌-◌, ◌≤◌, ltb, refl, ap, ◌∙◌, arith, rules}
-use Rattle.gsd_format.specs.Types.{size_of}
+use Rattle.std.proofs.Common.{◌≡◌, ◌-◌, ◌≤◌, ltb}
 use Rattle.gsd_format.specs.Elements.{any_nan}
-use Rattle.gsd_format.proofs.Elements.{nan-more}
-use Rattle.gsd_bytes.proofs.Signs.{or-high}
 use Rattle.gsd_bytes.proofs.floats.any_nan32.Given as goal
 
 abbrev pub invariant-loop-i : goal.invariant-loop-i

@@ -1,5 +1,5 @@
 -- `gsd_bytes::floats::any_nan64` meets its contract: a sign has turned among the elements passed where one of them is a NaN.
-use Rattle.std.proofs.Common.{◌≡◌, ◌-◌, ◌≤◌, ltb, refl, ap, ◌∙◌, arith, rules}
+use Rattle.std.proofs.Common.{refl, ap, ◌∙◌, arith, rules}
 use Rattle.gsd_format.specs.Types.{size_of}
 use Rattle.gsd_format.specs.Elements.{any_nan}
 use Rattle.gsd_format.proofs.Elements.{nan-more}

@@ -1,5 +1,5 @@
 -- `gsd_bytes::floats::sign_turned32` meets its contract.
-use Rattle.std.proofs.Common.{◌%◌, ◌^◌, sym, ◌∙◌, arith, rules}
+use Rattle.std.proofs.Common.{◌%◌, ◌^◌, sym, ◌∙◌, arith}
 use lib.Ieee.{binary32}
 use lib.Ieee.Bits.{nan_bits_above}
 use Rattle.gsd_format.specs.Elements.{nan_element}

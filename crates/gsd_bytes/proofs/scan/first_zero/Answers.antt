@@ -1,5 +1,5 @@
 -- `gsd_bytes::scan::first_zero` meets its contract: the first zero is near, or behind the bytes that are clear.
-use Rattle.std.proofs.Common.{arith, rules}
+use Rattle.std.proofs.Common.{arith}
 use Rattle.gsd_bytes.proofs.Zeros.{first-near, first-far}
 use Rattle.gsd_bytes.proofs.scan.first_zero.Goals as goal
 

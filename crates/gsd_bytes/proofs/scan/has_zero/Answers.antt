@@ -1,5 +1,4 @@
 -- `gsd_bytes::scan::has_zero` meets its contract.
-use Rattle.std.proofs.Common.{rules}
 use Rattle.gsd_bytes.proofs.Zeros.{zero-told}
 use Rattle.gsd_bytes.proofs.scan.has_zero.Goals as goal
 

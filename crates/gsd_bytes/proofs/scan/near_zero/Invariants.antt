@@ -1,5 +1,5 @@
 -- `gsd_bytes::scan::near_zero` meets its contract: none of the bytes passed is zero.
-use Rattle.std.proofs.Common.{◌≡◌, ℕ, ◌-◌, ◌<◌, ◌≤◌, get_or, arith, rules, below_more}
+use Rattle.std.proofs.Common.{◌≡◌, ℕ, ◌-◌, ◌<◌, ◌≤◌, get_or}
 use Rattle.gsd_bytes.proofs.scan.near_zero.Given as goal
 
 abbrev pub invariant-loop-i : goal.invariant-loop-i

@@ -1,6 +1,5 @@
 -- `gsd_bytes::scan::past_blocks` meets its contract: each block passed holds no zero.
-use Rattle.std.proofs.Common.{◌-◌, sym, ◌∙◌, arith, rules}
-use Rattle.gsd_bytes.specs.Zeros.{Clear}
+use Rattle.std.proofs.Common.{sym, ◌∙◌, arith}
 use Rattle.gsd_bytes.proofs.Zeros.{clear_none, clear-more}
 use Rattle.gsd_bytes.proofs.scan.past_blocks.Goals as goal
 

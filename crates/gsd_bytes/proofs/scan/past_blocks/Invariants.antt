@@ -1,7 +1,6 @@
 -- `gsd_bytes::scan::past_blocks` meets its contract: each block passed holds no zero.
-use Rattle.std.proofs.Common.{◌-◌, sym, ◌∙◌, arith, rules}
+use Rattle.std.proofs.Common.{◌-◌}
 use Rattle.gsd_bytes.specs.Zeros.{Clear}
-use Rattle.gsd_bytes.proofs.Zeros.{clear_none, clear-more}
 use Rattle.gsd_bytes.proofs.scan.past_blocks.Given as goal
 
 abbrev pub invariant-loop-i : goal.invariant-loop-i

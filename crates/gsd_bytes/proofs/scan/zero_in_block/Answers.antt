@@ -1,5 +1,5 @@
 -- `gsd_bytes::scan::zero_in_block` meets its contract: what is found is what the bytes passed hold.
-use Rattle.std.proofs.Common.{◌≡◌, ◌-◌, ◌≤◌, refl, ap, ◌∙◌, arith, rules}
+use Rattle.std.proofs.Common.{◌≡◌, refl, ap, ◌∙◌, arith, rules}
 use Rattle.gsd_format.specs.Bytes.{zero_in}
 use Rattle.gsd_bytes.proofs.Zeros.{zero_more}
 use Rattle.gsd_bytes.proofs.scan.zero_in_block.Goals as goal

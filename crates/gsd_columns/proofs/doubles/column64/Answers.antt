@@ -2,7 +2,6 @@
 use native.Mathlib.Omega.{arith}
 use Rattle.gsd_format.proofs.Elements.{nan-double}
 use Rattle.gsd_columns.proofs.Columns.{fewer, as-column, patterned}
-use borrow.Author.Rules.{rules}
 use Rattle.gsd_columns.proofs.doubles.column64.Goals as goal
 
 pub fours64-requires : goal.fours64-requires

@@ -1,14 +1,7 @@
 -- After each row the extremes are those of the rows so far.
-use Prim.Native.Nat.{◌+◌, ◌*◌, ◌-◌, ◌≤◌, ◌<◌}
-use native.Mathlib.Omega.{arith}
-use mathlib.Core.Path.{refl}
-use Rattle.gsd_format.specs.Types.{size_of}
-use Rattle.gsd_format.proofs.Elements.{nan-double}
+use Prim.Native.Nat.{◌-◌, ◌≤◌, ◌<◌}
 use Rattle.gsd_columns.specs.Columns.{column}
 use Rattle.gsd_columns.specs.Scans.{Extremes}
-use Rattle.gsd_columns.proofs.Extremes.{extremes-same}
-use Rattle.gsd_columns.proofs.Columns.{numbers-at, strided-column, column-joins, patterned}
-use borrow.Author.Rules.{rules}
 use Rattle.gsd_columns.proofs.doubles.columns64.Given as goal
 
 abbrev pub invariant-loop-i : goal.invariant-loop-i

@@ -4,7 +4,6 @@ use mathlib.Core.Bool.{Bool, not}
 use lib.Dec.{T}
 use lib.Ieee.{binary64, of_bits}
 use Rattle.gsd_format.specs.Elements.{nan_element}
-use borrow.Author.Rules.{rules}
 use Rattle.gsd_columns.proofs.doubles.f64_at.Goals as goal
 
 pub float_from_bits-result : goal.float_from_bits-result

@@ -2,7 +2,6 @@
 use native.Mathlib.Omega.{arith}
 use Rattle.gsd_format.proofs.Elements.{nan-single}
 use Rattle.gsd_columns.proofs.Columns.{fewer, as-column, patterned}
-use borrow.Author.Rules.{rules}
 use Rattle.gsd_columns.proofs.singles.column32.Goals as goal
 
 pub fours32-requires : goal.fours32-requires

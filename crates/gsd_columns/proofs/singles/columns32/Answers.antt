@@ -2,7 +2,6 @@
 use native.Mathlib.Omega.{arith}
 use Rattle.gsd_format.proofs.Elements.{nan-single}
 use Rattle.gsd_columns.proofs.Columns.{fewer, patterned}
-use borrow.Author.Rules.{rules}
 use Rattle.gsd_columns.proofs.singles.columns32.Goals as goal
 
 pub three_fours32-requires : goal.three_fours32-requires

@@ -4,7 +4,6 @@ use mathlib.Core.Bool.{Bool, not}
 use lib.Dec.{T}
 use lib.Ieee.{binary32, of_bits}
 use Rattle.gsd_format.specs.Elements.{nan_element}
-use borrow.Author.Rules.{rules}
 use Rattle.gsd_columns.proofs.singles.f32_at.Goals as goal
 
 pub float_from_bits-result : goal.float_from_bits-result

@@ -5,7 +5,6 @@ use Rattle.gsd_format.specs.Types.{size_of}
 use Rattle.gsd_format.proofs.Elements.{nan-single}
 use Rattle.gsd_columns.proofs.Extremes.{extremes-one, extremes-four}
 use Rattle.gsd_columns.proofs.Columns.{value-at, number_at, strided-number}
-use borrow.Author.Rules.{rules}
 use Rattle.gsd_columns.proofs.singles.four32.Goals as goal
 
 pub f32_at-requires-clause-number : goal.f32_at-requires-clause-number

@@ -1,14 +1,11 @@
 -- After each float the extremes are those of the floats so far.
-use Prim.Native.Nat.{◌+◌, ◌*◌, ◌-◌, ◌≤◌, ◌<◌}
+use Prim.Native.Nat.{◌+◌, ◌*◌}
 use native.Mathlib.Omega.{arith}
 use mathlib.Core.Path.{refl}
 use Rattle.gsd_format.specs.Types.{size_of}
 use Rattle.gsd_format.proofs.Elements.{nan-single}
-use Rattle.gsd_columns.specs.Columns.{column}
-use Rattle.gsd_columns.specs.Scans.{Extremes}
 use Rattle.gsd_columns.proofs.Extremes.{extremes-one, extremes-same}
 use Rattle.gsd_columns.proofs.Columns.{value-at, number_at, numbers-at, as-column, column-joins}
-use borrow.Author.Rules.{rules}
 use Rattle.gsd_columns.proofs.singles.rest32.Goals as goal
 
 pub loop-i-init : goal.loop-i-init

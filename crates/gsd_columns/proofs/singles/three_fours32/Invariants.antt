@@ -1,14 +1,7 @@
 -- After i fours of rows the extremes are those of as many rows and of the first.
 use Prim.Native.Nat.{◌+◌, ◌*◌, ◌-◌, ◌≤◌}
-use native.Mathlib.Omega.{arith}
-use mathlib.Core.Path.{refl}
-use Rattle.gsd_format.specs.Types.{size_of}
-use Rattle.gsd_format.proofs.Elements.{nan-single}
 use Rattle.gsd_columns.specs.Columns.{column}
 use Rattle.gsd_columns.specs.Scans.{Extremes}
-use Rattle.gsd_columns.proofs.Extremes.{extremes-same}
-use Rattle.gsd_columns.proofs.Columns.{numbers-at, column-joins, strided-column}
-use borrow.Author.Rules.{rules}
 use Rattle.gsd_columns.proofs.singles.three_fours32.Given as goal
 
 abbrev pub invariant-loop-i : goal.invariant-loop-i

@@ -1,14 +1,11 @@
 -- After each row the extremes are those of the rows so far.
-use Prim.Native.Nat.{◌+◌, ◌*◌, ◌-◌, ◌≤◌, ◌<◌}
+use Prim.Native.Nat.{◌+◌, ◌*◌}
 use native.Mathlib.Omega.{arith}
 use mathlib.Core.Path.{refl}
 use Rattle.gsd_format.specs.Types.{size_of}
 use Rattle.gsd_format.proofs.Elements.{nan-single}
-use Rattle.gsd_columns.specs.Columns.{column}
-use Rattle.gsd_columns.specs.Scans.{Extremes}
 use Rattle.gsd_columns.proofs.Extremes.{extremes-same}
 use Rattle.gsd_columns.proofs.Columns.{numbers-at, column-joins}
-use borrow.Author.Rules.{rules}
 use Rattle.gsd_columns.proofs.singles.three_rest32.Goals as goal
 
 pub loop-i-init : goal.loop-i-init

@@ -1,7 +1,6 @@
 -- `gsd_extents::extent::cut_byte` meets its contract.
 use mathlib.Core.Path.{sym, ◌∙◌}
 use Rattle.gsd_extents.proofs.Words.{cut-before, cut-behind}
-use borrow.Author.Rules.{rules}
 use Rattle.gsd_extents.proofs.extent.cut_byte.Goals as goal
 
 pub returns-then-i-until-clause-answer : goal.returns-then-i-until-clause-answer

@@ -1,12 +1,8 @@
 -- `gsd_extents::extent::far_word` meets its contract. Invariant: v is the number that the bytes from the k-th on make.
-use borrow.Author.Rules.{rules}
 use Prim.Native.Nat.{◌+◌, ◌-◌, ◌^◌, ◌≤◌, ◌<◌}
-use mathlib.Core.Path.{◌≡◌, refl, ◌∙◌, ap}
-use native.Mathlib.Nat.{add-zero}
-use native.Mathlib.Omega.{arith}
+use mathlib.Core.Path.{◌≡◌}
 use Rattle.gsd_format.specs.Bytes.{le}
 use Rattle.gsd_extents.specs.Exec.{text_of}
-use Rattle.gsd_extents.proofs.Words.{from-within, source-within, le-before, bytes-before, bytes_fit}
 use Rattle.gsd_extents.proofs.extent.far_word.Given as goal
 
 abbrev pub invariant-loop-k : goal.invariant-loop-k

@@ -1,7 +1,6 @@
 -- `gsd_extents::extent::next_store` meets its contract.
 use native.Mathlib.Omega.{arith}
 use Rattle.gsd_extents.proofs.Words.{place-within}
-use borrow.Author.Rules.{rules}
 use Rattle.gsd_extents.proofs.extent.next_store.Goals as goal
 
 pub put_word-requires : goal.put_word-requires

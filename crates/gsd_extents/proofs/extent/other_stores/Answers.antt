@@ -1,11 +1,11 @@
 -- `gsd_extents::extent::other_stores` meets its contract. Invariant of each loop: the stores of the words from where it
 -- began up to the i-th are made, and the image is that after them.
 use borrow.Author.Rules.{rules}
-use Prim.Native.Nat.{◌+◌, ◌-◌, ◌≤◌}
+use Prim.Native.Nat.{◌+◌}
 use mathlib.Core.Path.{◌≡◌, sym, ◌∙◌}
 use mathlib.Core.Bool.{true≢false}
 use native.Mathlib.Omega.{arith}
-use Rattle.gsd_extents.proofs.Tasks.{Made, made_none, made_one, made_more, made_all, made-length}
+use Rattle.gsd_extents.proofs.Tasks.{made_none, made_one, made_more, made_all, made-length}
 use Rattle.gsd_extents.proofs.extent.other_stores.Goals as goal
 
 pub overflow_add-e : goal.overflow_add-e

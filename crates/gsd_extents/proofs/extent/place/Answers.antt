@@ -1,7 +1,6 @@
 -- `gsd_extents::extent::place` meets its contract.
 use mathlib.Core.Path.{sym}
 use Rattle.gsd_extents.proofs.Words.{place-name, place_other}
-use borrow.Author.Rules.{rules}
 use Rattle.gsd_extents.proofs.extent.place.Goals as goal
 
 pub returns-then-extent-eq-NAME : goal.returns-then-extent-eq-NAME

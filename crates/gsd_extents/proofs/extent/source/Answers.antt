@@ -1,7 +1,6 @@
 -- `gsd_extents::extent::source` meets its contract.
 use mathlib.Core.Path.{sym, ◌∙◌}
 use Rattle.gsd_extents.proofs.Words.{source_name, source-other}
-use borrow.Author.Rules.{rules}
 use Rattle.gsd_extents.proofs.extent.source.Goals as goal
 
 pub returns-then-extent-eq-NAME : goal.returns-then-extent-eq-NAME

@@ -1,5 +1,4 @@
 -- `gsd_extents::extent::stores` meets its contract.
-use borrow.Author.Rules.{rules}
 use Rattle.gsd_extents.proofs.extent.stores.Goals as goal
 
 pub stores_of_zeros-requires-clause-number : goal.stores_of_zeros-requires-clause-number

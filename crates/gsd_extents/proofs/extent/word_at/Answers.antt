@@ -1,7 +1,6 @@
 -- `gsd_extents::extent::word_at` meets its contract.
 use mathlib.Core.Path.{sym, ◌∙◌}
 use Rattle.gsd_extents.proofs.Words.{word_number, word_read}
-use borrow.Author.Rules.{rules}
 use Rattle.gsd_extents.proofs.extent.word_at.Goals as goal
 
 pub near_word-requires : goal.near_word-requires

@@ -1,7 +1,6 @@
 -- `gsd_extents::keeping::keeps` meets its contract: the first test that fails decides.
 use mathlib.Core.Path.{sym, ◌∙◌}
-use borrow.Author.Tests.{not-true, not-false, eq-eqb, ne_eqb, lt-leb, le-leb}
-use borrow.Author.Rules.{rules}
+use borrow.Author.Tests.{eq-eqb, ne_eqb, lt-leb, le-leb}
 use Rattle.gsd_extents.specs.Exec.{keeps_to}
 use Rattle.gsd_extents.proofs.keeping.keeps.Goals as goal
 

@@ -1,7 +1,6 @@
 -- `gsd_extents::keeping::source_keeps` meets its contract: the test of its kind.
 use mathlib.Core.Path.{sym, ◌∙◌}
 use borrow.Author.Tests.{lt-leb, le-leb}
-use borrow.Author.Rules.{rules}
 use Rattle.gsd_extents.proofs.Kept.{keeps-copy, keeps-data, keeps-name, keeps-other}
 use Rattle.gsd_extents.proofs.keeping.source_keeps.Goals as goal
 

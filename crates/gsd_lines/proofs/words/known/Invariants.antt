@@ -1,5 +1,5 @@
 -- `gsd_lines::words::known` is safe and ends.
-use Rattle.std.proofs.Common.{◌-◌, rules}
+use Rattle.std.proofs.Common.{◌-◌}
 use Rattle.gsd_lines.proofs.words.known.Given as goal
 
 abbrev pub invariant-loop-k : goal.invariant-loop-k

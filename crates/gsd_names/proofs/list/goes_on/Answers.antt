@@ -1,6 +1,5 @@
 -- `gsd_names::list::goes_on` meets its contract.
 use borrow.Author.Tests.{le-ltb, lt-ltb}
-use borrow.Author.Rules.{rules}
 use Rattle.gsd_names.proofs.list.goes_on.Goals as goal
 
 pub returns-then-l-end : goal.returns-then-l-end

@@ -1,8 +1,7 @@
 -- `gsd_names::list::joined_list` meets its contract. Invariant: the names found so far are kept, and the rest of the list goes on from `start`.
 use Prim.Native.Nat.{◌+◌, ◌*◌, ◌-◌}
-use borrow.Author.Rules.{rules}
 use Rattle.gsd_names.specs.NameLists.{Past}
-use Rattle.gsd_names.proofs.NamePasses.{Joined, joined-none, joined-more, joined-all}
+use Rattle.gsd_names.proofs.NamePasses.{Joined}
 use Rattle.gsd_names.proofs.list.joined_list.Given as goal
 
 abbrev pub invariant-loop-start : goal.invariant-loop-start

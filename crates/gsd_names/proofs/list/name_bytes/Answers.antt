@@ -1,5 +1,4 @@
 -- `gsd_names::list::name_bytes` meets its contract.
-use borrow.Author.Rules.{rules}
 use Rattle.gsd_names.proofs.list.name_bytes.Goals as goal
 
 pub returns : goal.returns

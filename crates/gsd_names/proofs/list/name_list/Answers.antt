@@ -1,6 +1,5 @@
 -- `gsd_names::list::name_list` meets its contract: the version says which pass it is.
 use mathlib.Core.Path.{sym, ◌∙◌}
-use borrow.Author.Rules.{rules}
 use Rattle.gsd_names.proofs.list.name_list.Goals as goal
 
 pub segment_list-requires : goal.segment_list-requires

@@ -1,5 +1,4 @@
 -- `gsd_names::list::name_part` meets its contract.
-use borrow.Author.Rules.{rules}
 use Rattle.gsd_names.proofs.list.name_part.Goals as goal
 
 pub returns : goal.returns

@@ -1,6 +1,5 @@
 -- `gsd_names::list::name_start` meets its contract.
 use mathlib.Core.Path.{◌∙◌}
-use borrow.Author.Rules.{rules}
 use Rattle.gsd_names.proofs.list.name_start.Goals as goal
 
 pub returns-then-v10 : goal.returns-then-v10

@@ -1,7 +1,5 @@
 -- `gsd_names::list::segment_list` meets its contract. Invariant: the names found so far are kept, and the segments left begin at `segment`.
-use Prim.Native.Nat.{◌-◌}
-use borrow.Author.Rules.{rules}
-use Rattle.gsd_names.proofs.NamePasses.{Segmented, segmented-none, segmented-more, segmented-all, segmented-end}
+use Rattle.gsd_names.proofs.NamePasses.{segmented-none, segmented-more, segmented-all, segmented-end}
 use Rattle.gsd_names.proofs.list.segment_list.Goals as goal
 use Rattle.gsd_names.proofs.list.segment_list.Goals.{else-loop-count-test, then-loop-count-test+then-next-segment}
 

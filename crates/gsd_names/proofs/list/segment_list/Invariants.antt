@@ -1,8 +1,6 @@
 -- `gsd_names::list::segment_list` meets its contract. Invariant: the names found so far are kept, and the segments left begin at `segment`.
 use Prim.Native.Nat.{◌-◌}
-use mathlib.Core.Logic.{⊎_elim}
-use borrow.Author.Rules.{rules}
-use Rattle.gsd_names.proofs.NamePasses.{Segmented, segmented-none, segmented-more, segmented-all, segmented-end}
+use Rattle.gsd_names.proofs.NamePasses.{Segmented}
 use Rattle.gsd_names.proofs.list.segment_list.Given as goal
 
 abbrev pub invariant-loop-count : goal.invariant-loop-count

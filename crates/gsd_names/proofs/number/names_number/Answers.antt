@@ -1,10 +1,7 @@
 -- `gsd_names::number::names_number` meets its contract: each number by what is found.
-use mathlib.Core.Path.{◌≡◌, sym, ◌∙◌}
-use mathlib.Core.Bool.{Bool, true, false}
-use borrow.Author.Rules.{rules}
+use mathlib.Core.Path.{sym, ◌∙◌}
+use mathlib.Core.Bool.{true, false}
 use Rattle.gsd_format.specs.Refusals.{◌⇒◌}
-use Rattle.gsd_format.specs.Names.{block_names}
-use Rattle.gsd_format.specs.Opening.{names_test}
 use Rattle.gsd_names.proofs.NameLists.{number-open, number-many, number-twins}
 use Rattle.gsd_names.proofs.number.names_number.Goals as goal
 

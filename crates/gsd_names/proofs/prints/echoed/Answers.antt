@@ -1,9 +1,6 @@
 -- `gsd_names::prints::echoed` meets its contract. Invariant: the print is among those behind the i-th where it is found, or among those from the j-th on.
-use Prim.Native.Nat.{◌+◌, ◌-◌, ◌≤◌}
-use mathlib.Core.Path.{◌≡◌, refl, sym, ◌∙◌}
-use mathlib.Core.Bool.{◌||◌}
+use mathlib.Core.Path.{refl, sym, ◌∙◌}
 use borrow.Author.Rules.{rules}
-use Rattle.gsd_names.specs.NamePrints.{among}
 use Rattle.gsd_names.proofs.NamePrints.{among-more, among-found}
 use Rattle.gsd_names.proofs.prints.echoed.Goals as goal
 

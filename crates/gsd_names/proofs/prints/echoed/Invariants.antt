@@ -1,10 +1,8 @@
 -- `gsd_names::prints::echoed` meets its contract. Invariant: the print is among those behind the i-th where it is found, or among those from the j-th on.
 use Prim.Native.Nat.{◌+◌, ◌-◌, ◌≤◌}
-use mathlib.Core.Path.{◌≡◌, refl, sym, ◌∙◌}
+use mathlib.Core.Path.{◌≡◌}
 use mathlib.Core.Bool.{◌||◌}
-use borrow.Author.Rules.{rules}
 use Rattle.gsd_names.specs.NamePrints.{among}
-use Rattle.gsd_names.proofs.NamePrints.{among-more, among-found}
 use Rattle.gsd_names.proofs.prints.echoed.Given as goal
 
 abbrev pub invariant-loop-j : goal.invariant-loop-j

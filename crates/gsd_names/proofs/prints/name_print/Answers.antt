@@ -1,7 +1,6 @@
 -- `gsd_names::prints::name_print` meets its contract.
 use mathlib.Core.Path.{◌∙◌}
 use Rattle.gsd_names.specs.NamePrints.{print_of}
-use borrow.Author.Rules.{rules}
 use Rattle.gsd_names.proofs.prints.name_print.Goals as goal
 
 pub returns-then-whole : goal.returns-then-whole

@@ -1,10 +1,8 @@
 -- `gsd_names::prints::name_prints` meets its contract. Invariant: the prints before the i-th are those of the names.
-use Prim.Native.Nat.{◌-◌, ◌≤◌, ◌<◌}
-use mathlib.Core.Path.{◌≡◌, refl, ◌∙◌, ap}
+use Prim.Native.Nat.{◌-◌, ◌≤◌}
+use mathlib.Core.Path.{◌≡◌}
 use lib.ListN.{length}
-use borrow.Author.Rules.{rules}
-use Rattle.gsd_names.specs.NamePrints.{print_of, Printed}
-use Rattle.gsd_names.proofs.NamePrints.{printed-none, printed-more, printed-all}
+use Rattle.gsd_names.specs.NamePrints.{Printed}
 use Rattle.gsd_names.proofs.prints.name_prints.Given as goal
 
 abbrev pub invariant-loop-i : goal.invariant-loop-i

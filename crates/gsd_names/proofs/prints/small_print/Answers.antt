@@ -1,7 +1,6 @@
 -- `gsd_names::prints::small_print` meets its contract.
 use Rattle.gsd_names.specs.NamePrints.{small_print}
 use Rattle.gsd_names.proofs.NamePrints.{small-none}
-use borrow.Author.Rules.{rules}
 use Rattle.gsd_names.proofs.prints.small_print.Goals as goal
 
 pub returns-then-n-eq0 : goal.returns-then-n-eq0

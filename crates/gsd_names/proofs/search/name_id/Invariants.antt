@@ -1,10 +1,6 @@
 -- `gsd_names::search::name_id` meets its contract. Invariant: the name is none of those before the i-th.
 use Prim.Native.Nat.{◌-◌, ◌≤◌}
-use mathlib.Core.Path.{refl, sym, ◌∙◌, ap}
-use native.Mathlib.Nat.{add-zero}
-use borrow.Author.Rules.{rules}
-use Rattle.gsd_format.specs.Names.{index_of}
-use Rattle.gsd_names.proofs.NameLists.{names-all, Passed, passed-more, passed_here, passed-all}
+use Rattle.gsd_names.proofs.NameLists.{Passed}
 use Rattle.gsd_names.proofs.search.name_id.Given as goal
 
 abbrev pub invariant-loop-i : goal.invariant-loop-i

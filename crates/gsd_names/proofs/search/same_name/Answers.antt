@@ -5,7 +5,6 @@ use native.Mathlib.Omega.{arith}
 use lib.ListN.{length, get_or}
 use lib.Seq.{take-length, ext_get_or}
 use Rattle.gsd_format.proofs.Bytes.{eq-same, ne_same}
-use borrow.Author.Rules.{rules}
 use Rattle.gsd_names.proofs.search.same_name.Goals as goal
 
 pub returns-then-n-b : goal.returns-then-n-b

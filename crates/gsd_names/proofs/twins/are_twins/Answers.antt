@@ -1,7 +1,6 @@
 -- `gsd_names::twins::are_twins` meets its contract: names with two prints differ; else their bytes tell.
 use mathlib.Core.Path.{sym, ◌∙◌}
 use Rattle.gsd_format.proofs.Bytes.{ne_same}
-use borrow.Author.Rules.{rules}
 use Rattle.gsd_names.proofs.twins.are_twins.Goals as goal
 
 pub returns-then-prints-i : goal.returns-then-prints-i

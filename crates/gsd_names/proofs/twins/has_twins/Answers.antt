@@ -1,13 +1,9 @@
 -- `gsd_names::twins::has_twins` meets its contract. Invariants: no name before the i-th comes again; the i-th is none of those
 -- behind it up to the j-th.
-use Prim.Native.Nat.{◌+◌, ◌-◌, ◌≤◌}
-use mathlib.Core.Path.{◌≡◌, refl, sym, ◌∙◌, ap}
-use mathlib.Core.Bool.{false}
+use mathlib.Core.Path.{refl, sym, ◌∙◌, ap}
 use borrow.Author.Rules.{rules}
-use Rattle.gsd_format.specs.Names.{bytes_of}
 use Rattle.gsd_format.specs.Opening.{twins}
-use Rattle.gsd_names.specs.NameLists.{part_at}
-use Rattle.gsd_names.proofs.NameLists.{names, names-all, Passed, passed-more, passed_here, passed-all, twins-here, twins-behind, twins-none}
+use Rattle.gsd_names.proofs.NameLists.{names-all, passed-more, passed_here, passed-all, twins-here, twins-behind, twins-none}
 use Rattle.gsd_names.proofs.NamePrints.{paired, twins-silent}
 use Rattle.gsd_names.proofs.twins.has_twins.Goals as goal
 use Rattle.gsd_names.proofs.twins.has_twins.Goals.{then-echoed+else-loop-j-test, else-echoed}

@@ -1,15 +1,12 @@
 -- `gsd_names::twins::has_twins` meets its contract. Invariants: no name before the i-th comes again; the i-th is none of those
 -- behind it up to the j-th.
 use Prim.Native.Nat.{◌+◌, ◌-◌, ◌≤◌}
-use mathlib.Core.Path.{◌≡◌, refl, sym, ◌∙◌, ap}
+use mathlib.Core.Path.{◌≡◌}
 use mathlib.Core.Bool.{false}
-use mathlib.Core.Logic.{⊎_elim}
-use borrow.Author.Rules.{rules}
 use Rattle.gsd_format.specs.Names.{bytes_of}
 use Rattle.gsd_format.specs.Opening.{twins}
 use Rattle.gsd_names.specs.NameLists.{part_at}
-use Rattle.gsd_names.proofs.NameLists.{names, names-all, Passed, passed-more, passed_here, passed-all, twins-here, twins-behind, twins-none}
-use Rattle.gsd_names.proofs.NamePrints.{paired, twins-silent}
+use Rattle.gsd_names.proofs.NameLists.{names, Passed}
 use Rattle.gsd_names.proofs.twins.has_twins.Given as goal
 
 abbrev pub invariant-loop-j : goal.invariant-loop-j

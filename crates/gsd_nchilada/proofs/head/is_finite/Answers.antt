@@ -1,6 +1,5 @@
 -- Only the NaN differs from itself; of any other the bits say whether it is finite.
 use Rattle.gsd_nchilada.proofs.Finite.{differs, equals}
-use borrow.Author.Rules.{rules}
 use Rattle.gsd_nchilada.proofs.head.is_finite.Goals as goal
 
 pub returns-then-x : goal.returns-then-x

@@ -4,7 +4,6 @@ use Rattle.gsd_format.specs.Bytes.{stored}
 use Rattle.gsd_xdr.specs.Xdr.{be_bytes}
 use Rattle.gsd_body.proofs.Bodies.{store-more}
 use Rattle.gsd_nchilada.proofs.Files.{head-parts}
-use borrow.Author.Rules.{rules}
 use Rattle.gsd_nchilada.proofs.head.put_head.Goals as goal
 
 pub float_to_bits-time : goal.float_to_bits-time

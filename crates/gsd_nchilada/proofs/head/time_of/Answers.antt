@@ -5,7 +5,6 @@ use mathlib.Core.Path.{subst⁻¹}
 use lib.Dec.{T}
 use lib.Ieee.{in_float}
 use borrow.Author.Tests.{le-leb}
-use borrow.Author.Rules.{rules}
 use Rattle.gsd_nchilada.proofs.head.time_of.Goals as goal
 
 pub int_to_float-result : goal.int_to_float-result

@@ -4,7 +4,6 @@ use Rattle.gsd_format.specs.Types.{size_of}
 use Rattle.gsd_elements.proofs.Elements.{few-elements}
 use Rattle.gsd_body.proofs.Bodies.{second-of}
 use Rattle.gsd_nchilada.proofs.Requests.{of_size, nan-of-type}
-use borrow.Author.Rules.{rules}
 use Rattle.gsd_nchilada.proofs.written.any_nan.Goals as goal
 
 pub overflow_mul-count : goal.overflow_mul-count

@@ -3,7 +3,6 @@ use Prim.Native.Nat.{◌+◌, ◌*◌}
 use mathlib.Core.Path.{ap}
 use native.Mathlib.Omega.{arith}
 use Rattle.gsd_nchilada.proofs.Requests.{short-rows, short-file}
-use borrow.Author.Rules.{rules}
 use Rattle.gsd_nchilada.proofs.written.file_length.Goals as goal
 
 pub overflow_add-result : goal.overflow_add-result

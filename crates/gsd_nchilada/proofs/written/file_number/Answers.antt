@@ -1,13 +1,11 @@
 -- Each way out is the first test that applies.
 use mathlib.Core.Path.{◌≡◌, sym, ◌∙◌}
 use mathlib.Core.Bool.{true}
-use borrow.Author.Tests.{not-true, not-false}
 use Rattle.gsd_format.proofs.Refusals.{both_true}
 use Rattle.gsd_body.specs.Body.{one_or_three}
 use Rattle.gsd_nchilada.specs.Request.{floating}
 use Rattle.gsd_nchilada.proofs.Requests.{few-rows, gives-60, gives-61, gives-62, gives-63, gives-64, gives-0}
 use Rattle.gsd_nchilada.proofs.Finite.{both-finite}
-use borrow.Author.Rules.{rules}
 use Rattle.gsd_nchilada.proofs.written.file_number.Goals as goal
 
 pub returns-then-not-writable : goal.returns-then-not-writable

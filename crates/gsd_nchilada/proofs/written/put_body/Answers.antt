@@ -3,7 +3,6 @@ use mathlib.Core.Path.{refl}
 use Rattle.gsd_format.specs.Types.{size_of}
 use Rattle.gsd_body.proofs.Bodies.{second-of, body-as}
 use Rattle.gsd_nchilada.proofs.Requests.{ready-as}
-use borrow.Author.Rules.{rules}
 use Rattle.gsd_nchilada.proofs.written.put_body.Goals as goal
 
 pub put_body32-requires : goal.put_body32-requires

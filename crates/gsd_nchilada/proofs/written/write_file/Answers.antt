@@ -7,7 +7,6 @@ use Rattle.gsd_nchilada.specs.Request.{finite}
 use Rattle.gsd_nchilada.proofs.Requests.{is-ready, ready-room, not-accepted, was-accepted}
 use Rattle.gsd_nchilada.proofs.Files.{file-written}
 use Rattle.gsd_nchilada.proofs.Finite.{finite_number}
-use borrow.Author.Rules.{rules}
 use Rattle.gsd_nchilada.proofs.written.write_file.Goals as goal
 
 pub file_number-number-requires : goal.file_number-number-requires

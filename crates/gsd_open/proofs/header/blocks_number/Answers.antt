@@ -6,7 +6,6 @@ use Rattle.gsd_format.specs.Refusals.{◌⇒◌}
 use Rattle.gsd_format.specs.Opening.{blocks_test}
 use Rattle.gsd_format.proofs.Refusals.{decides, goes_on}
 use Rattle.gsd_open.proofs.Blocks.{inside}
-use borrow.Author.Rules.{rules}
 use Rattle.gsd_open.proofs.header.blocks_number.Goals as goal
 
 pub returns-then-outside : goal.returns-then-outside

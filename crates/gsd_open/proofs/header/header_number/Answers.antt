@@ -6,7 +6,6 @@ use Rattle.gsd_format.specs.Refusals.{◌⇒◌}
 use Rattle.gsd_format.specs.Header.{supported}
 use Rattle.gsd_format.specs.Opening.{header_test}
 use Rattle.gsd_format.proofs.Refusals.{decides, goes_on}
-use borrow.Author.Rules.{rules}
 use Rattle.gsd_open.proofs.header.header_number.Goals as goal
 
 pub returns-then-image : goal.returns-then-image

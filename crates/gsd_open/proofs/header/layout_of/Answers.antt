@@ -1,7 +1,6 @@
 -- The layout is read field by field.
 use lib.ListN.{length}
 use Rattle.gsd_format.specs.Header.{layout_of}
-use borrow.Author.Rules.{rules}
 use Rattle.gsd_open.proofs.header.layout_of.Goals as goal
 
 pub returns : goal.returns

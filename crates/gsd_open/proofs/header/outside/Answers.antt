@@ -4,7 +4,6 @@ use native.Mathlib.Omega.{arith}
 use borrow.Author.Tests.{lt-ltb, le-ltb}
 use Rattle.gsd_format.specs.Header.{header_size}
 use Rattle.gsd_open.proofs.Blocks.{units-fit}
-use borrow.Author.Rules.{rules}
 use Rattle.gsd_open.proofs.header.outside.Goals as goal
 
 pub returns-then-start-lt-HEADER_SIZE : goal.returns-then-start-lt-HEADER_SIZE

@@ -3,7 +3,6 @@ use mathlib.Core.Path.{sym, ◌∙◌}
 use borrow.Author.Tests.{eq-eqb, ne_eqb}
 use Rattle.gsd_format.proofs.Refusals.{left-holds, right-holds, right-decides, neither-of}
 use lib.Dec.{eqb}
-use borrow.Author.Rules.{rules}
 use Rattle.gsd_format.specs.Header.{version20, v10}
 use Rattle.gsd_open.proofs.header.supported.Goals as goal
 

@@ -2,7 +2,6 @@
 use mathlib.Core.Path.{sym, ◌∙◌, ap}
 use mathlib.Core.Bool.{not}
 use Rattle.gsd_format.proofs.Refusals.{left-holds, right-decides}
-use borrow.Author.Rules.{rules}
 use Rattle.gsd_open.proofs.header.text_open.Goals as goal
 
 pub returns-then-not-has_zero : goal.returns-then-not-has_zero

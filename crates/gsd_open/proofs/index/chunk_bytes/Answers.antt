@@ -2,7 +2,6 @@
 use native.Mathlib.Nat.{mul-le-mul}
 use native.Mathlib.Omega.{arith}
 use Rattle.gsd_open.proofs.EntryTests.{capped-chunk}
-use borrow.Author.Rules.{rules}
 use Rattle.gsd_open.proofs.index.chunk_bytes.Goals as goal
 
 pub overflow_mul-m : goal.overflow_mul-m

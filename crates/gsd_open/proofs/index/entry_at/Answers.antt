@@ -2,7 +2,6 @@
 use Prim.Native.Nat.{◌+◌}
 use lib.ListN.{get_or}
 use Rattle.gsd_format.specs.Entries.{entry_at}
-use borrow.Author.Rules.{rules}
 use Rattle.gsd_open.proofs.index.entry_at.Goals as goal
 
 pub returns : goal.returns

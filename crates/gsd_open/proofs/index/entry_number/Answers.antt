@@ -2,7 +2,6 @@
 use mathlib.Core.Path.{sym, ◌∙◌}
 use native.Mathlib.Omega.{arith}
 use borrow.Author.Tests.{lt-ltb}
-use borrow.Author.Rules.{rules}
 use Rattle.gsd_format.specs.Refusals.{◌▹◌}
 use Rattle.gsd_format.proofs.Refusals.{first_of, last_of, stays, decides, goes_on, met, less-no}
 use Rattle.gsd_open.proofs.EntryTests.{room-capped, entry-by, fields-place, fields-id, place-late, late-some}

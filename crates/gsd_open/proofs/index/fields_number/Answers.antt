@@ -4,7 +4,6 @@ use mathlib.Core.Bool.{not}
 use borrow.Author.Tests.{lt-ltb, le-ltb, lt-leb, le-leb}
 use Rattle.gsd_format.proofs.Refusals.{decides, goes_on, left-holds, right-decides, neither-of}
 use Rattle.gsd_open.specs.Index.{fields_test}
-use borrow.Author.Rules.{rules}
 use Rattle.gsd_open.proofs.index.fields_number.Goals as goal
 
 pub returns-then-e-lt-HEADER_SIZE : goal.returns-then-e-lt-HEADER_SIZE

@@ -1,5 +1,4 @@
 -- The sum fits.
-use borrow.Author.Rules.{rules}
 use mathlib.Core.Path.{refl}
 use Rattle.gsd_open.proofs.index.frames_to.Goals as goal
 

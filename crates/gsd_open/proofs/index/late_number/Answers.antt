@@ -1,7 +1,6 @@
 -- 18 where the chunk has its room.
 use mathlib.Core.Path.{sym, ◌∙◌}
 use Rattle.gsd_format.proofs.Refusals.{first_of, stays}
-use borrow.Author.Rules.{rules}
 use Rattle.gsd_open.proofs.index.late_number.Goals as goal
 
 pub returns-then-room-ne0 : goal.returns-then-room-ne0

@@ -4,8 +4,7 @@ use mathlib.Core.Path.{sym, ◌∙◌, ap}
 use mathlib.Core.Bool.{true≢false}
 use native.Mathlib.Omega.{arith}
 use lib.Dec.{ltb}
-use borrow.Author.Rules.{rules}
-use borrow.Author.Tests.{lt-ltb, le-ltb, eq-eqb, ne_eqb, not-true, not-false}
+use borrow.Author.Tests.{lt-ltb, le-ltb, eq-eqb, ne_eqb}
 use Rattle.gsd_format.specs.Entries.{key_of}
 use Rattle.gsd_format.proofs.Refusals.{left-holds, right-decides}
 use Rattle.gsd_open.proofs.EntryTests.{place-10, place-recent, noted-10, noted-recent}

@@ -3,7 +3,6 @@ use mathlib.Core.Path.{sym, ◌∙◌}
 use borrow.Author.Tests.{lt-ltb, le-ltb}
 use Rattle.gsd_format.proofs.Refusals.{decides, goes_on, met, passed, left-holds, right-decides, neither-of}
 use Rattle.gsd_open.specs.Index.{room_test}
-use borrow.Author.Rules.{rules}
 use Rattle.gsd_open.proofs.index.room_number.Goals as goal
 
 pub returns-then-l-a : goal.returns-then-l-a

@@ -3,7 +3,6 @@ use Prim.Native.Nat.{ℕ}
 use mathlib.Core.Bool.{true≢false}
 use mathlib.Core.Path.{sym, ◌∙◌}
 use lib.ListN.{length-replicate, get_or-replicate}
-use borrow.Author.Rules.{rules}
 use Rattle.gsd_format.specs.Opening.{most_names}
 use Rattle.gsd_open.proofs.index.walk_listed.Goals as goal
 

@@ -4,7 +4,6 @@ use mathlib.Core.Path.{sym}
 use native.Mathlib.Omega.{arith}
 use Rattle.gsd_format.proofs.Bytes.{apart-meets}
 use Rattle.gsd_format.proofs.Refusals.{same_test}
-use borrow.Author.Rules.{rules}
 use Rattle.gsd_open.proofs.stretch.share.Goals as goal
 
 pub returns-then-b-m : goal.returns-then-b-m

@@ -1,7 +1,6 @@
 -- Names that are refused, or what the walk says.
 use mathlib.Core.Path.{sym, ◌∙◌}
 use native.Mathlib.Omega.{arith}
-use borrow.Author.Rules.{rules}
 use Rattle.gsd_open.proofs.Surveys.{laid-length, laid-short, laid-blocks, bad-names, few-found, walked}
 use Rattle.gsd_open.proofs.survey.survey_lists.Goals as goal
 

@@ -1,7 +1,6 @@
 -- The first part that refuses, or what the lists say.
 use mathlib.Core.Path.{sym, ◌∙◌}
 use native.Mathlib.Omega.{arith}
-use borrow.Author.Rules.{rules}
 use Rattle.gsd_format.proofs.Verdict.{header-zero}
 use Rattle.gsd_open.proofs.Surveys.{layout-length, bad-header, bad-blocks}
 use Rattle.gsd_open.proofs.survey.survey_of.Goals as goal

@@ -3,7 +3,6 @@ use Prim.Native.Nat.{◌+◌, ◌*◌}
 use mathlib.Core.Path.{◌∙◌, ap}
 use mathlib.Core.List.{[], ◌∷◌}
 use native.Mathlib.Omega.{arith}
-use borrow.Author.Rules.{rules}
 use Rattle.gsd_format.specs.Bytes.{stored}
 use Rattle.gsd_plan.specs.Planning.{list_numbers}
 use Rattle.gsd_plan.proofs.Sited.{slot_small}

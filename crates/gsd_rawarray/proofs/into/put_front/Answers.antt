@@ -1,6 +1,5 @@
 -- The magic and three numbers in a row.
 use Rattle.gsd_rawarray.proofs.Files.{front-stored}
-use borrow.Author.Rules.{rules}
 use Rattle.gsd_rawarray.proofs.into.put_front.Goals as goal
 
 pub returns : goal.returns

@@ -1,6 +1,5 @@
 -- Its front and its shape in a row.
 use Rattle.gsd_rawarray.proofs.Files.{head-stored}
-use borrow.Author.Rules.{rules}
 use Rattle.gsd_rawarray.proofs.into.put_head.Goals as goal
 
 pub returns : goal.returns

@@ -2,7 +2,6 @@
 use mathlib.Core.Path.{refl}
 use Rattle.gsd_format.specs.Bytes.{le_bytes}
 use Rattle.gsd_format.proofs.Bytes.{store-more}
-use borrow.Author.Rules.{rules}
 use Rattle.gsd_rawarray.proofs.into.put_shape.Goals as goal
 
 pub returns : goal.returns

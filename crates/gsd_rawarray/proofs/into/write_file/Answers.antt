@@ -5,7 +5,6 @@ use native.Mathlib.Omega.{arith}
 use Rattle.gsd_format.specs.Bytes.{stored}
 use Rattle.gsd_format.proofs.Refusals.{not-accepted, was-accepted}
 use Rattle.gsd_rawarray.proofs.Files.{size_exact, known-kind, chunk_part, file-written, gives-77, gives_none}
-use borrow.Author.Rules.{rules}
 use Rattle.gsd_rawarray.proofs.into.write_file.Goals as goal
 
 pub returns-then-file-size : goal.returns-then-file-size

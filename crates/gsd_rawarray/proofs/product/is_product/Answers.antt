@@ -2,7 +2,6 @@
 use mathlib.Core.Path.{sym, ap}
 use lib.Dec.{eqb}
 use Rattle.gsd_rawarray.proofs.Division.{no-columns, no-width, ragged, ragged-rows, even}
-use borrow.Author.Rules.{rules}
 use Rattle.gsd_rawarray.proofs.product.is_product.Goals as goal
 
 pub returns-then-width-eq0 : goal.returns-then-width-eq0

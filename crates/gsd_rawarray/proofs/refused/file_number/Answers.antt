@@ -4,7 +4,6 @@ use native.Mathlib.Omega.{arith}
 use lib.Dec.{eqb}
 use borrow.Author.Tests.{ne_eqb}
 use Rattle.gsd_rawarray.proofs.Requests.{gives-70, gives-71, gives-72, gives-73, gives-74, gives-75, gives-76, gives-0}
-use borrow.Author.Rules.{rules}
 use Rattle.gsd_rawarray.proofs.refused.file_number.Goals as goal
 
 pub returns-then-file-lt-SHORTEST_FILE : goal.returns-then-file-lt-SHORTEST_FILE

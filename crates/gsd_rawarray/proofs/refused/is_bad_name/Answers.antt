@@ -5,7 +5,6 @@ use native.Mathlib.Omega.{arith}
 use lib.ListN.{length}
 use Rattle.gsd_format.specs.Bytes.{zero_in}
 use Rattle.gsd_rawarray.proofs.Requests.{bad-empty, bad-long, bad-zero}
-use borrow.Author.Rules.{rules}
 use Rattle.gsd_rawarray.proofs.refused.is_bad_name.Goals as goal
 
 pub returns-then-name-eq0 : goal.returns-then-name-eq0

@@ -2,7 +2,6 @@
 use mathlib.Core.Path.{sym, ◌∙◌}
 use native.Mathlib.Omega.{arith}
 use Rattle.gsd_rawarray.proofs.Requests.{file-passed, gives-file, gives-78, gives-79, gives_none}
-use borrow.Author.Rules.{rules}
 use Rattle.gsd_rawarray.proofs.refused.read_number.Goals as goal
 
 pub returns-then-number-ne0 : goal.returns-then-number-ne0

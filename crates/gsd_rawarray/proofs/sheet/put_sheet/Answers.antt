@@ -4,7 +4,6 @@ use Rattle.gsd_format.specs.Bytes.{stored}
 use native.Mathlib.Omega.{arith}
 use Rattle.gsd_rawarray.proofs.Requests.{request-passed}
 use Rattle.gsd_rawarray.proofs.Sheets.{data-inside, data-part, sheet-written}
-use borrow.Author.Rules.{rules}
 use Rattle.gsd_rawarray.proofs.sheet.put_sheet.Goals as goal
 
 pub data_start-start-requires : goal.data_start-start-requires

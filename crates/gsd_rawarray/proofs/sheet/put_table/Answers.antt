@@ -3,7 +3,6 @@ use native.Mathlib.Omega.{arith}
 use mathlib.Core.Path.{◌∙◌}
 use Rattle.gsd_rawarray.proofs.Said.{long}
 use Rattle.gsd_rawarray.proofs.Sheets.{table-stored}
-use borrow.Author.Rules.{rules}
 use Rattle.gsd_rawarray.proofs.sheet.put_table.Goals as goal
 
 pub kind_in-requires : goal.kind_in-requires

@@ -2,7 +2,6 @@
 use mathlib.Core.Path.{◌∙◌}
 use native.Mathlib.Omega.{arith}
 use Rattle.gsd_rawarray.proofs.Said.{two, long}
-use borrow.Author.Rules.{rules}
 use Rattle.gsd_rawarray.proofs.words.data_start.Goals as goal
 
 pub u64_at-requires : goal.u64_at-requires

@@ -1,7 +1,6 @@
 -- The length is the product, and no more than what is behind the dimensions.
 use native.Mathlib.Omega.{arith}
 use Rattle.gsd_rawarray.proofs.Said.{long, start-inside, data-told}
-use borrow.Author.Rules.{rules}
 use Rattle.gsd_rawarray.proofs.words.has_data.Goals as goal
 
 pub overflow_sub-behind : goal.overflow_sub-behind

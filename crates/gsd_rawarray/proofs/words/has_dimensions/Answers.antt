@@ -1,7 +1,6 @@
 -- One, two, or another number of them.
 use mathlib.Core.Path.{sym, ◌∙◌}
 use Rattle.gsd_rawarray.proofs.Said.{dims-one, dims-two, dims-none}
-use borrow.Author.Rules.{rules}
 use Rattle.gsd_rawarray.proofs.words.has_dimensions.Goals as goal
 
 pub returns-then-count-eq1 : goal.returns-then-count-eq1

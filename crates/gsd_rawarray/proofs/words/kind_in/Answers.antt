@@ -1,7 +1,6 @@
 -- Type and width as they stand.
 use mathlib.Core.Path.{◌∙◌}
 use Rattle.gsd_rawarray.specs.Said.{kind_of}
-use borrow.Author.Rules.{rules}
 use Rattle.gsd_rawarray.proofs.words.kind_in.Goals as goal
 
 pub returns : goal.returns

@@ -3,7 +3,6 @@ use mathlib.Core.Path.{sym, ◌∙◌, ap}
 use lib.ListN.{get_or}
 use Rattle.gsd_rawarray.specs.Said.{types_of}
 use Rattle.gsd_rawarray.proofs.Types.{other-type}
-use borrow.Author.Rules.{rules}
 use Rattle.gsd_rawarray.proofs.words.kind_of.Goals as goal
 
 pub returns-then-raw-eq2 : goal.returns-then-raw-eq2

@@ -2,7 +2,6 @@
 use mathlib.Core.Path.{sym}
 use native.Mathlib.Omega.{arith}
 use lib.ListN.{get_or-eq_default}
-use borrow.Author.Rules.{rules}
 use Rattle.gsd_rawarray.proofs.words.of_width.Goals as goal
 
 pub returns-then-types-width : goal.returns-then-types-width

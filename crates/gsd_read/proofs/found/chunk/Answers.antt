@@ -1,5 +1,4 @@
 -- The chunk lies in the image.
-use borrow.Author.Rules.{rules}
 use Rattle.gsd_read.proofs.Lookups.{chunk_inside}
 use Rattle.gsd_read.proofs.found.chunk.Goals as goal
 

@@ -1,6 +1,5 @@
 -- The chunk of an entry that is found is no longer than the slice, so its size is exact.
 use mathlib.Core.Path.{sym, ◌∙◌}
-use borrow.Author.Rules.{rules}
 use Rattle.gsd_format.proofs.Calls.{place-says}
 use Rattle.gsd_read.proofs.Lookups.{place_found, place-refused}
 use Rattle.gsd_read.proofs.found.chunk_place.Goals as goal

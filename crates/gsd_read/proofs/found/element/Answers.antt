@@ -1,6 +1,5 @@
 -- An entry that is found has its chunk in the image; a refusal is passed on.
 use mathlib.Core.Path.{sym, ◌∙◌}
-use borrow.Author.Rules.{rules}
 use Rattle.gsd_format.proofs.Calls.{element-says}
 use Rattle.gsd_read.proofs.Lookups.{found-held, element-found, element-refused}
 use Rattle.gsd_read.proofs.found.element.Goals as goal

@@ -1,7 +1,6 @@
 -- The survey's number is passed on; the n-th entry is read from its slot.
 use mathlib.Core.Path.{sym, ◌∙◌, ap}
 use native.Mathlib.Omega.{arith}
-use borrow.Author.Rules.{rules}
 use Rattle.gsd_format.specs.declared.Listed.{Listed}
 use Rattle.gsd_format.proofs.Lookup.{refused-entry}
 use Rattle.gsd_format.proofs.Calls.{entry-says}

@@ -1,5 +1,4 @@
 -- The search's answer, by its number and its values.
-use borrow.Author.Rules.{rules}
 use Rattle.gsd_format.proofs.Calls.{lookup-says}
 use Rattle.gsd_read.proofs.found.lookup.Goals as goal
 

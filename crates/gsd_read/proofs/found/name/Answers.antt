@@ -1,6 +1,5 @@
 -- The survey's number is passed on; the n-th name lies where the name list says.
 use mathlib.Core.Path.{sym, ◌∙◌, ap}
-use borrow.Author.Rules.{rules}
 use Rattle.gsd_format.specs.declared.Place.{Place}
 use Rattle.gsd_format.proofs.Lookup.{refused-name}
 use Rattle.gsd_format.proofs.Calls.{name-says}

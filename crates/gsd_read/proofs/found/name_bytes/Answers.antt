@@ -1,5 +1,4 @@
 -- The n-th name lies in the image.
-use borrow.Author.Rules.{rules}
 use Rattle.gsd_read.proofs.Lookups.{name-inside}
 use Rattle.gsd_read.proofs.found.name_bytes.Goals as goal
 

@@ -1,6 +1,5 @@
 -- The survey's number is passed on, or its counts are answered.
 use mathlib.Core.Path.{sym}
-use borrow.Author.Rules.{rules}
 use Rattle.gsd_format.specs.declared.Opening.{Opening}
 use Rattle.gsd_format.proofs.Verdict.{opening-refused}
 use Rattle.gsd_format.proofs.Calls.{opening-says}

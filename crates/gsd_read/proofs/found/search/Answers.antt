@@ -1,5 +1,4 @@
 -- The survey's number is passed on, then 40, 41, and what the search for the entry answers.
-use borrow.Author.Rules.{rules}
 use Rattle.gsd_read.proofs.Answers.{told-by, not_opened, no-frame, spans-there, not_listed, query-fits, look-on}
 use Rattle.gsd_read.proofs.found.search.Goals as goal
 

@@ -1,8 +1,6 @@
 -- The tests come in the order of the definition, and the last one decides.
 use mathlib.Core.Path.{sym, ◌∙◌}
 use native.Mathlib.Omega.{arith}
-use borrow.Author.Tests.{not-true, not-false}
-use borrow.Author.Rules.{rules}
 use Rattle.gsd_reader.proofs.Fitting.{not_short, not_known, not-few, not-slots, not-list, fits_last}
 use Rattle.gsd_reader.proofs.fit.fits.Goals as goal
 

@@ -1,8 +1,6 @@
 -- The chunk's size is exact where it could lie in the image.
 use mathlib.Core.Path.{sym, ◌∙◌}
 use native.Mathlib.Omega.{arith}
-use borrow.Author.Tests.{not-true, not-false}
-use borrow.Author.Rules.{rules}
 use Rattle.gsd_reader.proofs.Fitting.{not-type, not_there, holds-last}
 use Rattle.gsd_reader.proofs.fit.holds.Goals as goal
 

@@ -1,5 +1,4 @@
 -- The chunk lies in the image.
-use borrow.Author.Rules.{rules}
 use Rattle.gsd_reader.proofs.Inside.{chunk_inside}
 use Rattle.gsd_reader.proofs.found.chunk_by.Goals as goal
 

@@ -1,8 +1,6 @@
 -- A chunk that lies in the image is no longer than it, so its size is exact.
 use mathlib.Core.Path.{sym, ◌∙◌, refl}
 use native.Mathlib.Omega.{arith}
-use borrow.Author.Tests.{not-true, not-false}
-use borrow.Author.Rules.{rules}
 use Rattle.gsd_format.specs.declared.Place.{Place}
 use Rattle.gsd_format.proofs.Readers.{chunk-held, chunk-33}
 use Rattle.gsd_reader.proofs.Fitting.{holding}

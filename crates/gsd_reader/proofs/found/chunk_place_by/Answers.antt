@@ -1,6 +1,5 @@
 -- An entry was found, so the reader fits.
 use mathlib.Core.Path.{sym, ◌∙◌, ap}
-use borrow.Author.Rules.{rules}
 use Rattle.gsd_format.specs.Readers.{chunk_for}
 use Rattle.gsd_format.proofs.Readers.{chunk-none}
 use Rattle.gsd_reader.proofs.Fitting.{fitting, found-fits}

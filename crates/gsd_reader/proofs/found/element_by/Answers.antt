@@ -1,6 +1,5 @@
 -- An entry was found, so the reader fits.
 use mathlib.Core.Path.{sym, ◌∙◌, ap}
-use borrow.Author.Rules.{rules}
 use Rattle.gsd_format.specs.Readers.{element_for}
 use Rattle.gsd_format.proofs.Readers.{element-none}
 use Rattle.gsd_reader.proofs.Fitting.{fitting, found-fits}

@@ -1,7 +1,5 @@
 -- An entry that holds can be read.
 use mathlib.Core.Path.{refl, sym, ◌∙◌}
-use borrow.Author.Tests.{not-true, not-false}
-use borrow.Author.Rules.{rules}
 use Rattle.gsd_format.proofs.Readers.{element-held, element-33}
 use Rattle.gsd_reader.proofs.Fitting.{holding}
 use Rattle.gsd_reader.proofs.found.element_of.Goals as goal

@@ -1,8 +1,6 @@
 -- The slot lies in the image, for the reader fits.
 use mathlib.Core.Path.{sym, ◌∙◌, ap}
 use native.Mathlib.Omega.{arith}
-use borrow.Author.Tests.{not-true, not-false}
-use borrow.Author.Rules.{rules}
 use Rattle.gsd_format.specs.declared.Listed.{Listed}
 use Rattle.gsd_format.proofs.Readers.{entry-there, entry-behind, entry-33}
 use Rattle.gsd_reader.proofs.Fitting.{fitting}

@@ -1,8 +1,6 @@
 -- The reader's query fits the image, and the search's answer is the definition's.
 use mathlib.Core.Path.{sym, ◌∙◌, ap}
 use native.Mathlib.Omega.{arith}
-use borrow.Author.Tests.{not-true, not-false}
-use borrow.Author.Rules.{rules}
 use Rattle.gsd_format.proofs.Readers.{find-33, find-fits, counted-frames, counted-names, counted-both}
 use Rattle.gsd_search.specs.Queries.{answer_for}
 use Rattle.gsd_reader.proofs.Queries.{query-fits}

@@ -1,6 +1,5 @@
 -- By the version.
 use mathlib.Core.Path.{sym, ◌∙◌}
-use borrow.Author.Rules.{rules}
 use Rattle.gsd_reader.proofs.Opening.{size-old, size-new}
 use Rattle.gsd_reader.proofs.found.list_size.Goals as goal
 

@@ -1,8 +1,6 @@
 -- An id that is found is below the number of names, so the query fits.
 use mathlib.Core.Path.{sym, ◌∙◌, ap}
 use native.Mathlib.Omega.{arith}
-use borrow.Author.Tests.{not-true, not-false}
-use borrow.Author.Rules.{rules}
 use Rattle.gsd_format.proofs.Readers.{look-33, look-behind, look-for, found-is, found-not}
 use Rattle.gsd_search.specs.Queries.{answer_for}
 use Rattle.gsd_reader.proofs.NextNames.{ident-low}

@@ -1,7 +1,5 @@
 -- The answer is that of the walk over the names.
 use mathlib.Core.Path.{sym, ◌∙◌}
-use borrow.Author.Tests.{not-true, not-false}
-use borrow.Author.Rules.{rules}
 use Rattle.gsd_format.proofs.Readers.{name-33, name-fits}
 use Rattle.gsd_reader.proofs.found.name_by.Goals as goal
 

@@ -1,5 +1,4 @@
 -- The n-th name lies in the image.
-use borrow.Author.Rules.{rules}
 use Rattle.gsd_reader.proofs.Inside.{name-inside}
 use Rattle.gsd_reader.proofs.found.name_bytes_by.Goals as goal
 

@@ -1,8 +1,6 @@
 -- The reader's query fits the image; a frame below the number of frames has one behind it.
 use mathlib.Core.Path.{sym, ◌∙◌, ap}
 use native.Mathlib.Omega.{arith}
-use borrow.Author.Tests.{not-true, not-false}
-use borrow.Author.Rules.{rules}
 use Rattle.gsd_format.specs.Readers.{place_behind, last_before}
 use Rattle.gsd_format.proofs.Readers.{newest-33, newest-fits, counted-frames, counted-names, counted-both}
 use Rattle.gsd_search.specs.Queries.{slots_for}

@@ -1,5 +1,4 @@
 -- The survey tells all that the reader has.
-use borrow.Author.Rules.{rules}
 use Rattle.gsd_reader.proofs.Opening.{refused-reading, few-names, list-above, ready-reading}
 use Rattle.gsd_reader.proofs.found.open_reader.Goals as goal
 

@@ -1,6 +1,5 @@
 -- Names lie as those of 1.0 or of 2.0 do.
 use mathlib.Core.Path.{sym, ◌∙◌}
-use borrow.Author.Rules.{rules}
 use Rattle.gsd_format.specs.Header.{version10, version20}
 use Rattle.gsd_reader.proofs.NextNames.{next-alike}
 use Rattle.gsd_reader.proofs.names.name_here.Goals as goal

@@ -1,9 +1,8 @@
 -- Invariant: so many names are passed, no more than are asked for.
-use Prim.Native.Nat.{◌+◌, ◌-◌, ◌≤◌}
-use mathlib.Core.Path.{◌≡◌, refl, sym}
+use mathlib.Core.Path.{refl, sym}
 use native.Mathlib.Omega.{arith}
 use Rattle.gsd_reader.proofs.Fitting.{fitting}
-use Rattle.gsd_reader.proofs.NextNames.{Passing, passing-start, passing-full, passing-end, passing-some, passing-here, passing-on, part-here}
+use Rattle.gsd_reader.proofs.NextNames.{passing-start, passing-full, passing-end, passing-some, passing-here, passing-on, part-here}
 use Rattle.gsd_reader.proofs.NextNames.{part_none}
 use Rattle.gsd_reader.proofs.names.part_in.Goals as goal
 

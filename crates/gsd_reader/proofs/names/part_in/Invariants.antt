@@ -1,10 +1,7 @@
 -- Invariant: so many names are passed, no more than are asked for.
 use Prim.Native.Nat.{◌+◌, ◌-◌, ◌≤◌}
-use mathlib.Core.Path.{◌≡◌, refl, sym}
-use native.Mathlib.Omega.{arith}
-use Rattle.gsd_reader.proofs.Fitting.{fitting}
-use Rattle.gsd_reader.proofs.NextNames.{Passing, passing-start, passing-full, passing-end, passing-some, passing-here, passing-on, part-here}
-use Rattle.gsd_reader.proofs.NextNames.{part_none}
+use mathlib.Core.Path.{◌≡◌}
+use Rattle.gsd_reader.proofs.NextNames.{Passing}
 use Rattle.gsd_reader.proofs.names.part_in.Given as goal
 
 abbrev pub invariant-loop-i : goal.invariant-loop-i

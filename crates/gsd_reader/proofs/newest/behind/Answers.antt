@@ -1,6 +1,5 @@
 -- By the version.
 use mathlib.Core.Path.{sym, ◌∙◌}
-use borrow.Author.Rules.{rules}
 use Rattle.gsd_reader.proofs.Queries.{behind-old, behind-new}
 use Rattle.gsd_reader.proofs.newest.behind.Goals as goal
 

@@ -1,11 +1,8 @@
 -- Invariant: what is found before the place is what is found before the i-th entry.
-use Prim.Native.Nat.{◌≤◌}
-use mathlib.Core.Path.{◌≡◌, refl, sym, ◌∙◌, ap}
+use mathlib.Core.Path.{refl, sym, ◌∙◌, ap}
 use native.Mathlib.Omega.{arith}
-use borrow.Author.Rules.{rules}
 use Rattle.gsd_format.specs.Readers.{last_before}
 use Rattle.gsd_format.proofs.Newest.{last_none}
-use Rattle.gsd_search.specs.Queries.{slots_for}
 use Rattle.gsd_reader.proofs.Queries.{slot-here, slot-on}
 use Rattle.gsd_reader.proofs.newest.last_before.Goals as goal
 

@@ -1,6 +1,5 @@
 -- Of two frames the lower has the lower key, for an id is below what a frame counts; in one frame the ids decide.
 use native.Mathlib.Omega.{arith}
-use borrow.Author.Rules.{rules}
 use Rattle.gsd_format.proofs.Entries.{lower-frame, lower-id}
 use Rattle.gsd_search.proofs.halving.below.Goals as goal
 

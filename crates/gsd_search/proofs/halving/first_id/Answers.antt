@@ -1,6 +1,5 @@
 -- By the version.
 use mathlib.Core.Path.{sym, ◌∙◌}
-use borrow.Author.Rules.{rules}
 use Rattle.gsd_format.proofs.Search.{first-10, first-recent}
 use Rattle.gsd_search.proofs.halving.first_id.Goals as goal
 

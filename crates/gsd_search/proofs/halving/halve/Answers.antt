@@ -2,12 +2,10 @@
 use mathlib.Core.Path.{sym, ◌∙◌, ap}
 use native.Mathlib.Omega.{arith}
 use lib.Dec.{ltb}
-use borrow.Author.Rules.{rules}
 use Rattle.gsd_format.specs.Entries.{key_of, key}
 use Rattle.gsd_format.proofs.Entries.{slots_length}
 use Rattle.gsd_format.proofs.Search.{first-low}
-use Rattle.gsd_search.specs.Queries.{slots_for}
-use Rattle.gsd_search.proofs.Progress.{Halving, halving-start, halving-next, halving-right, halving-left, halving-end, halving-high}
+use Rattle.gsd_search.proofs.Progress.{halving-start, halving-next, halving-right, halving-left, halving-end, halving-high}
 use Rattle.gsd_search.proofs.halving.halve.Goals as goal
 
 pub loop-n-init : goal.loop-n-init

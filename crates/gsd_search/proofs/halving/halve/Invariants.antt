@@ -1,13 +1,6 @@
 -- What is left of the slots, halved further, ends where they do, and each probe is the next.
-use mathlib.Core.Path.{sym, ◌∙◌, ap}
-use native.Mathlib.Omega.{arith}
-use lib.Dec.{ltb}
-use borrow.Author.Rules.{rules}
-use Rattle.gsd_format.specs.Entries.{key_of, key}
-use Rattle.gsd_format.proofs.Entries.{slots_length}
-use Rattle.gsd_format.proofs.Search.{first-low}
 use Rattle.gsd_search.specs.Queries.{slots_for}
-use Rattle.gsd_search.proofs.Progress.{Halving, halving-start, halving-next, halving-right, halving-left, halving-end, halving-high}
+use Rattle.gsd_search.proofs.Progress.{Halving}
 use Rattle.gsd_search.proofs.halving.halve.Given as goal
 
 abbrev pub invariant-loop-n : goal.invariant-loop-n

@@ -1,9 +1,6 @@
 -- Each probe is the next; the entries passed are of the frame and have other ids.
-use Prim.Native.Nat.{◌-◌}
 use native.Mathlib.Omega.{arith}
-use borrow.Author.Rules.{rules}
-use Rattle.gsd_search.specs.Queries.{slots_for}
-use Rattle.gsd_search.proofs.Progress.{Walking, walking_start, walking-next, walking-other, walking-found, walking_on, walking-end}
+use Rattle.gsd_search.proofs.Progress.{walking_start, walking-next, walking-other, walking-found, walking_on, walking-end}
 use Rattle.gsd_search.proofs.Progress.{place-high, ahead-end, end-high}
 use Rattle.gsd_search.proofs.walking.walk.Goals as goal
 

@@ -1,7 +1,6 @@
 -- By the version: all slots, or one of them.
 use mathlib.Core.Path.{sym, ◌∙◌}
 use native.Mathlib.Omega.{arith}
-use borrow.Author.Rules.{rules}
 use Rattle.gsd_search.specs.Queries.{walk_end}
 use Rattle.gsd_search.proofs.walking.walk_end.Goals as goal
 

@@ -1,6 +1,5 @@
 -- `gsd_text::put::decimal` meets its contract: it calls itself on the number without its last digit.
 use Rattle.std.proofs.Common.{sym, arith}
-use lib.ListN.{length-set}
 use Rattle.gsd_format.proofs.Listing.{small-length, more-length, small-stored, more-stored}
 use Rattle.gsd_text.proofs.put.+decimal.Goals as goal
 

@@ -1,11 +1,9 @@
 -- `gsd_text::put::fields` meets its contract: what is still to be put makes the same buffer as the whole line would.
-use Prim.Native.Nat.{◌+◌, ◌-◌, ◌≤◌}
-use mathlib.Core.Path.{◌≡◌, refl, sym, ◌∙◌}
+use mathlib.Core.Path.{refl, sym, ◌∙◌}
 use native.Mathlib.Omega.{arith}
-use lib.ListN.{length, drop, length-set}
+use lib.ListN.{length-set}
 use borrow.Author.Rules.{rules}
 use Rattle.gsd_format.specs.Bytes.{stored}
-use Rattle.gsd_format.specs.Listing.{fields}
 use Rattle.gsd_format.proofs.Listing.{fields-length, fields-stored, fields-last}
 use Rattle.gsd_text.proofs.put.fields.Goals as goal
 

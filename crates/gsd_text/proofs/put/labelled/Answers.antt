@@ -4,7 +4,6 @@ use mathlib.Core.Path.{refl, ◌∙◌, ap}
 use mathlib.Core.List.{◌++◌}
 use native.Mathlib.Omega.{arith}
 use lib.ListN.{length}
-use borrow.Author.Rules.{rules}
 use Rattle.gsd_format.specs.Listing.{decimal}
 use Rattle.gsd_format.proofs.Bytes.{stored-front}
 use Rattle.gsd_format.proofs.Listing.{decimal-long}

@@ -1,5 +1,4 @@
 -- `gsd_turns::turn::copied` meets its contract: step 5 begins behind the clears, the rows, the name block's move and the new names.
-use borrow.Author.Rules.{rules}
 use Prim.Native.Nat.{◌/◌}
 use mathlib.Core.Path.{◌∙◌, ap}
 use native.Mathlib.Omega.{arith}

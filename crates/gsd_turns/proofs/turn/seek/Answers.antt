@@ -1,8 +1,6 @@
 -- `gsd_turns::turn::seek` meets its contract: extents are passed until fewer stores are left to pass than the next one has.
-use borrow.Author.Rules.{rules}
-use Prim.Native.Nat.{◌-◌}
 use native.Mathlib.Omega.{arith}
-use Rattle.gsd_turns.proofs.Turns.{Sought, sought-none, sought-more, sought-here, sought-end}
+use Rattle.gsd_turns.proofs.Turns.{sought-none, sought-more, sought-here, sought-end}
 use Rattle.gsd_turns.proofs.turn.seek.Goals as goal
 
 pub loop-r-init : goal.loop-r-init

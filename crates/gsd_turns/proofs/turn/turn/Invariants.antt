@@ -1,9 +1,6 @@
 -- `gsd_turns::turn::turn` meets its contract: each turn of the loop makes the rest of an extent, or stops in it.
-use borrow.Author.Rules.{rules}
 use Prim.Native.Nat.{◌-◌}
-use mathlib.Core.Path.{◌∙◌}
-use native.Mathlib.Omega.{arith}
-use Rattle.gsd_turns.proofs.Turns.{Turning, turning-none, extent-word, extent-good, extent-made, extent-over, turn-stop, turn_end}
+use Rattle.gsd_turns.proofs.Turns.{Turning}
 use Rattle.gsd_turns.proofs.turn.turn.Given as goal
 
 abbrev pub invariant-loop-r : goal.invariant-loop-r

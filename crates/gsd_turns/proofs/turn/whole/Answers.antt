@@ -1,6 +1,6 @@
 -- `gsd_turns::turn::whole` meets its contract: the words of the extents are summed extent by extent.
 use borrow.Author.Rules.{rules}
-use Prim.Native.Nat.{◌+◌, ◌-◌, ◌≤◌}
+use Prim.Native.Nat.{◌+◌}
 use mathlib.Core.Path.{◌≡◌, sym, ◌∙◌, ap}
 use native.Mathlib.Omega.{arith}
 use Rattle.gsd_steps.specs.Steps.{front_count}

@@ -1,10 +1,7 @@
 -- `gsd_turns::turn::whole` meets its contract: the words of the extents are summed extent by extent.
-use borrow.Author.Rules.{rules}
-use Prim.Native.Nat.{◌+◌, ◌-◌, ◌≤◌}
-use mathlib.Core.Path.{◌≡◌, sym, ◌∙◌, ap}
-use native.Mathlib.Omega.{arith}
-use Rattle.gsd_steps.specs.Steps.{front_count}
-use Rattle.gsd_turns.proofs.Count.{counted, counted_none, counted-more, counted-within, counted-all}
+use Prim.Native.Nat.{◌-◌, ◌≤◌}
+use mathlib.Core.Path.{◌≡◌}
+use Rattle.gsd_turns.proofs.Count.{counted}
 use Rattle.gsd_turns.proofs.turn.whole.Given as goal
 
 abbrev pub invariant-loop-r : goal.invariant-loop-r

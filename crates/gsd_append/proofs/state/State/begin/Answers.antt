@@ -1,5 +1,4 @@
 -- `gsd_append::state::State::begin` meets its contract.
-use borrow.Author.Rules.{rules}
 use Rattle.gsd_append.proofs.Turns.{refused-begun, accepted-begun}
 use Rattle.gsd_append.proofs.state.State.begin.Goals as goal
 

@@ -1,7 +1,6 @@
 -- `gsd_append::state::State::turn` meets its contract.
 use borrow.Author.Rules.{rules}
 use mathlib.Core.Path.{sym, ◌∙◌}
-use borrow.Author.Tests.{not-true, not-false}
 use Rattle.gsd_states.proofs.States.{fits-ready}
 use Rattle.gsd_append.proofs.Turns.{turn-refused, turn-carried}
 use Rattle.gsd_append.proofs.state.State.turn.Goals as goal

@@ -4,7 +4,6 @@ use mathlib.Core.Path.{refl}
 use Rattle.gsd_format.specs.Types.{size_of}
 use Rattle.gsd_columns.proofs.Extremes.{extremes-one}
 use Rattle.gsd_columns.proofs.Columns.{value-at, number_at}
-use borrow.Author.Rules.{rules}
 use Rattle.gsd_columns.proofs.doubles.Three64.of.Goals as goal
 
 pub f64_at-requires-clause-number : goal.f64_at-requires-clause-number

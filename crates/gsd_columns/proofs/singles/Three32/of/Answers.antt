@@ -4,7 +4,6 @@ use mathlib.Core.Path.{refl}
 use Rattle.gsd_format.specs.Types.{size_of}
 use Rattle.gsd_columns.proofs.Extremes.{extremes-one}
 use Rattle.gsd_columns.proofs.Columns.{value-at, number_at}
-use borrow.Author.Rules.{rules}
 use Rattle.gsd_columns.proofs.singles.Three32.of.Goals as goal
 
 pub f32_at-requires-clause-number : goal.f32_at-requires-clause-number

@@ -4,7 +4,6 @@ use native.Mathlib.Omega.{arith}
 use mathlib.Core.Path.{refl}
 use Rattle.gsd_format.specs.Types.{size_of}
 use Rattle.gsd_columns.proofs.Columns.{number_at}
-use borrow.Author.Rules.{rules}
 use Rattle.gsd_columns.proofs.singles.Three32.of_four.Goals as goal
 
 pub four32-requires-clause-numbers : goal.four32-requires-clause-numbers
