@@ -21,6 +21,18 @@ pub fn any_bytes(length: usize) -> Vec<u8> {
     (0..length).map(|at| (151 * at + at / 256 + 90) as u8).collect()
 }
 
+/// What a call makes of so many bytes; a refusal leaves those that were there.
+fn lent(length: usize, call: impl FnOnce(&mut [u8]) -> u64) -> Answer<Vec<u8>> {
+    let mut bytes = any_bytes(length);
+    match call(&mut bytes) {
+        0 => Ok(bytes),
+        number => {
+            assert_eq!(bytes, any_bytes(length), "refused with {number}, and wrote");
+            Err(number)
+        }
+    }
+}
+
 pub trait Ask: Library {
     fn counts(&self, image: &[u8]) -> Answer<[u64; 3]> {
         answer(|out| self.open(image, out))
@@ -73,14 +85,17 @@ pub trait Ask: Library {
         step: f64,
         length: usize,
     ) -> Answer<Vec<u8>> {
-        let mut file = any_bytes(length);
-        match self.nchilada(image, frame, name, step, &mut file) {
-            0 => Ok(file),
-            number => {
-                assert_eq!(file, any_bytes(length), "refused with {number}, and wrote");
-                Err(number)
-            }
-        }
+        lent(length, |file| self.nchilada(image, frame, name, step, file))
+    }
+
+    /// The RawArray file in a slice of so many bytes; a refusal leaves those that were there.
+    fn array(&self, image: &[u8], frame: u64, name: &[u8], length: usize) -> Answer<Vec<u8>> {
+        lent(length, |file| self.rawarray_write(image, frame, name, file))
+    }
+
+    /// The sheet of a RawArray file in a slice of so many bytes; a refusal leaves those that were there.
+    fn sheet_of(&self, file: &[u8], name: &[u8], length: usize) -> Answer<Vec<u8>> {
+        lent(length, |sheet| self.rawarray_read(file, name, sheet))
     }
 
     /// A fresh image of `length` bytes, zero before, with empty texts.

@@ -8,7 +8,10 @@ use crate::demand3::{Call, Run};
 use crate::images::{self, get64, put32, put64, put_names, put_slots, sheet, version, Row, Slot};
 use crate::images::{frames_to_ask, segments_for, GREATEST_FRAME, GROWING, V1_0, V2_0, V2_1};
 use crate::library::{Create, Library, REFUSED};
-use crate::{move_cases, moving, nchilada_cases, old_cases, reader_cases, start_cases, turn_cases};
+use crate::{
+    move_cases, moving, nchilada_cases, old_cases, rawarray_cases, reader_cases, start_cases,
+    turn_cases,
+};
 use std::ops::Deref;
 
 /// A library, and the version of the images that it is asked about.
@@ -92,6 +95,8 @@ pub fn all() -> Vec<(String, Test)> {
         (reader_cases::CASES, &every),
         (reader_cases::GROWING, &both),
         (nchilada_cases::CASES, &every),
+        (rawarray_cases::CASES, &every),
+        (rawarray_cases::GROWING, &both),
         (old_cases::CASES, &old),
     ] {
         for &(name, case) in cases {

@@ -2,7 +2,7 @@
 
 use crate::ask::any_bytes;
 use crate::generate;
-use crate::images::{around, frames_to_ask, Row};
+use crate::images::{around, frames_to_ask, lawful_rows, Row, V2_0};
 use crate::lent::{Flush, Lent};
 use crate::library::{
     Create, Library, Reader, Reference, State, READER_WORDS, REFUSED, STATE_WORDS,
@@ -254,11 +254,51 @@ impl<'l> Check<'l> {
             format!("nchilada frame {frame} name {name} step {bits:016x} in {length} bytes")
         };
         self.judge((number, Out::<0>::new()), (expected, Out::new()), call);
+        self.judge_file(&ours, call);
+    }
+
+    /// The RawArray file of a chunk in a slice of so many bytes.
+    pub fn rawarray_write(&mut self, frame: u64, name: &[u8], length: usize) {
+        let mut ours = any_bytes(length);
+        let (text, file) =
+            (self.argument.lend(name, self.flush), self.file.lend(&ours, self.flush));
+        let number = self.library.rawarray_write(self.theirs.bytes(), frame, text, file);
+        self.argument_kept(name);
+        let expected = Reference.rawarray_write(&self.ours, frame, name, &mut ours);
+        let call = || format!("rawarray_write frame {frame} name {} in {length} bytes", hex(name));
+        self.judge((number, Out::<0>::new()), (expected, Out::new()), call);
+        self.judge_file(&ours, call);
+    }
+
+    /// The sheet of a RawArray file in a slice of so many bytes; the image has no part in it.
+    pub fn rawarray_read(&mut self, file: &[u8], name: &[u8], length: usize) {
+        let mut ours = any_bytes(length);
+        let (lent, text) =
+            (self.second.lend(file, self.flush), self.argument.lend(name, self.flush));
+        let sheet = self.file.lend(&ours, self.flush);
+        let number = self.library.rawarray_read(lent, text, sheet);
+        self.argument_kept(name);
+        let call = || format!("rawarray_read {} name {} in {length} bytes", hex(file), hex(name));
+        if self.second.bytes() != file || !self.second.margin_kept() {
+            self.fail(|| format!("{}\n  wrote the file", call()));
+        }
+        let expected = Reference.rawarray_read(file, name, &mut ours);
+        self.judge((number, Out::<0>::new()), (expected, Out::new()), call);
+        self.judge_file(&ours, call);
+        // Whatever the file says: 2.0 knows the fewest types.
+        let rows = lawful_rows(self.file.bytes(), V2_0);
+        if expected == 0 && rows.is_none_or(|rows| rows.len() != 1) {
+            self.fail(|| format!("{}\n  no sheet of one row that 22 to 27 pass", call()));
+        }
+    }
+
+    /// Compares what a call left of the file or sheet lent to it, and holds it to writing nothing else.
+    fn judge_file(&mut self, ours: &[u8], call: impl Fn() -> String) {
         let kept = self.file.margin_kept();
         if self.file.bytes() != ours || !kept {
             let (theirs, image) = (hex(self.file.bytes()), hex(&self.ours));
             self.fail(|| {
-                let (call, ours) = (call(), hex(&ours));
+                let (call, ours) = (call(), hex(ours));
                 format!("{call}\n  writes   {theirs} margin kept {kept}\n  expected {ours}\n  image {image}")
             });
         }
@@ -601,7 +641,7 @@ impl<'l> Check<'l> {
         }
     }
 
-    /// Lookup, chunk, some elements and the file of one name in one frame.
+    /// Lookup, chunk, some elements and the files of one name in one frame.
     pub fn read(&mut self, frame: u64, name: &[u8]) -> Option<[u64; 7]> {
         let found = self.lookup(frame, name);
         self.chunk(frame, name);
@@ -615,6 +655,8 @@ impl<'l> Check<'l> {
         let step = generate::step(&mut rng, frame);
         let length = generate::some_length(&mut rng, found.unwrap_or_default());
         self.nchilada(frame, name, step, length);
+        let length = generate::some_array_length(&mut rng, found.unwrap_or_default());
+        self.rawarray_write(frame, name, length);
         found
     }
 }

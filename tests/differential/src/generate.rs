@@ -3,9 +3,9 @@
 
 use crate::ask::Ask;
 use crate::images::{
-    blank, file_length, get64, is_nan, last_type, put16, put32, put64, put_names, put_slots, room,
-    segments_for, sheet, size, version, Row, Slot, FLOATS, GREATEST_FRAME, GROWING, SEGMENT, V1_0,
-    V2_1, VERSIONS,
+    array_length, blank, file_length, get64, is_nan, last_type, put16, put32, put64, put_names,
+    put_slots, room, segments_for, sheet, size, version, Row, Slot, FLOATS, GREATEST_FRAME,
+    GROWING, SEGMENT, V1_0, V2_1, VERSIONS,
 };
 use crate::library::{Create, Library, Reference};
 use crate::model::EARLIER;
@@ -408,6 +408,152 @@ pub fn some_length(rng: &mut Rng, entry: [u64; 7]) -> usize {
         3 => rng.below(2 * length),
         _ => length,
     }
+}
+
+/// A length of a slice for what has this one, at least 20: mostly that.
+fn near_length(rng: &mut Rng, length: usize) -> usize {
+    match rng.below(12) {
+        0 => length - 1,
+        1 => length + 1,
+        2 => rng.pick(&[0, 1, 19, 20, 56, 63, 64, length - 8, length + 8, length + 256]),
+        3 => rng.below(2 * length),
+        4 => length.saturating_sub(256),
+        _ => length,
+    }
+}
+
+/// The length of a slice for the RawArray file of an entry: mostly the file's own.
+pub fn some_array_length(rng: &mut Rng, entry: [u64; 7]) -> usize {
+    near_length(rng, array_length(entry))
+}
+
+/// Types and widths of elements that become ours.
+const ARRAY_TYPES: [(u64, u64); 10] =
+    [(2, 1), (2, 2), (2, 4), (2, 8), (1, 1), (1, 2), (1, 4), (1, 8), (3, 4), (3, 8)];
+
+/// A word in place of this one: next to it, with a bit more, small, or near a border.
+fn odd_word(rng: &mut Rng, word: u64) -> u64 {
+    match rng.below(6) {
+        0 => word.wrapping_add(1),
+        1 => word.wrapping_sub(1),
+        2 => word ^ 1 << rng.pick(&[8, 32, 63]),
+        3 => word ^ 1 << rng.below(64),
+        4 => rng.below(20) as u64,
+        _ => rng.border(),
+    }
+}
+
+/// A file of one dimension or two, mostly with something that is wrong or next to it: an odd type, width
+/// or shape, a product that would wrap to the data's length, bytes behind the data or too few of them.
+pub fn array_file(rng: &mut Rng) -> Vec<u8> {
+    let (mut code, mut width) = rng.pick(&ARRAY_TYPES);
+    match rng.below(24) {
+        0 => code = rng.below(7) as u64,
+        1 => width = rng.pick(&[0, 1, 2, 3, 5, 6, 7, 16, 80]),
+        2 => code = odd_word(rng, code),
+        3 => width = odd_word(rng, width),
+        _ => {}
+    }
+    let mut dimensions = rng.pick(&[1, 2, 2]);
+    let mut m = if dimensions == 1 { 1 } else { rng.pick(&[0, 1, 2, 3, 4, 5, 8]) };
+    let mut n = rng.below(7) as u64;
+    let small = n.wrapping_mul(m).wrapping_mul(width);
+    let mut length = if small < 500 { small } else { rng.below(40) as u64 };
+    let mut data = rng.bytes(length as usize);
+    if rng.chance(10) {
+        data.fill(0xFF);
+    }
+    // What makes a product of 64 bits the same, or a part of it.
+    let wrap = |factor: u64| match factor.trailing_zeros() {
+        zeros @ 1..=63 => 1 << (64 - zeros),
+        _ => 1 << 32,
+    };
+    match rng.below(20) {
+        0 => n = n.wrapping_add(wrap(m.wrapping_mul(width))),
+        1 => n = n.wrapping_add(wrap(m)),
+        2 => m = m.wrapping_add(wrap(width)),
+        3 => n = n.wrapping_add(1 << 32),
+        4 => m = m.wrapping_add(1 << 32),
+        5 => (m, n) = (n, m),
+        6 => (m, n, length) = (0, rng.border(), 0),
+        7 => (m, n, length) = (rng.border(), 0, 0),
+        8 => (m, n, length) = ((1 << 32) - 2 + rng.below(4) as u64, 0, 0),
+        9 => (m, n, length) = (rng.pick(&[1 << 16, 1 << 31]) + rng.below(3) as u64, 0, 0),
+        // So long that its end would wrap.
+        10 => {
+            n = u64::MAX - rng.below(90) as u64;
+            (m, length) = (1, n.wrapping_mul(width));
+        }
+        11 => length = odd_word(rng, length),
+        12 => length = rng.below(2 * length as usize + 2) as u64,
+        13 => length = length.wrapping_add(1 << 32),
+        _ => {}
+    }
+    let shape = match dimensions {
+        1 => vec![n],
+        _ => vec![m, n],
+    };
+    if rng.chance(8) {
+        dimensions = match rng.below(3) {
+            0 => rng.pick(&[0, 3, 4]),
+            1 => 3 - dimensions,
+            _ => odd_word(rng, dimensions),
+        };
+    }
+    let flags = if rng.chance(6) { odd_word(rng, 0) } else { 0 };
+    let mut file = b"rawarray".to_vec();
+    let words = [flags, code, width, length, dimensions].into_iter().chain(shape);
+    file.extend(words.flat_map(u64::to_le_bytes));
+    file.extend(data);
+    if rng.chance(40) {
+        let behind = if rng.chance(30) { 1 } else { rng.below(60) };
+        file.extend(rng.bytes(behind));
+    }
+    match rng.below(24) {
+        0 => file[rng.below(8)] ^= rng.pick(&[1, 32, 128]),
+        1 => file[..8].reverse(),
+        2 => file.truncate(rng.pick(&[0, 7, 8, 16, 47, 48, 49, 55, 56, 57, 63, 64])),
+        3 => file.truncate(file.len() - 1),
+        4 => {
+            let length = rng.below(file.len());
+            file.truncate(length);
+        }
+        5 | 6 => bend_array(rng, &mut file),
+        _ => {}
+    }
+    file
+}
+
+/// Changes a word or a byte of a file, mostly before its data.
+pub fn bend_array(rng: &mut Rng, file: &mut [u8]) {
+    let word = 8 * rng.below(8);
+    if rng.chance(60) && file.len() >= word + 8 {
+        let other = odd_word(rng, get64(file, word));
+        put64(file, word, other);
+    } else if let Some(last) = file.len().checked_sub(1) {
+        file[rng.below(last.min(80) + 1)] ^= 1 << rng.below(8);
+    }
+}
+
+/// A name for a row, that a sheet may not have now and then.
+pub fn array_name(rng: &mut Rng) -> Vec<u8> {
+    let mut name = name(rng);
+    match rng.below(16) {
+        0 => name.clear(),
+        1 => name = vec![b'n'; rng.pick(&[63, 64, 254, 255, 256, 257, 300, 512])],
+        2 => {
+            let at = rng.pick(&[0, name.len() / 2, name.len() - 1]);
+            name[at] = 0;
+        }
+        _ => {}
+    }
+    name
+}
+
+/// The length of a slice for the sheet of a file: mostly what it says.
+pub fn some_sheet_length(rng: &mut Rng, file: &[u8], name: &[u8]) -> usize {
+    let told = if file.len() < 40 { 0 } else { get64(file, 32) };
+    near_length(rng, 20 + name.len() + told.min(file.len() as u64) as usize)
 }
 
 /// As [`rows`], with bits about the borders of NaNs in one or two of them, mostly in floats or

@@ -5,8 +5,8 @@ use crate::check::{names_of, Check, ODD_NAMES};
 use crate::demand3::{Call, Run};
 use crate::generate::{self, Layout};
 use crate::images::{
-    blank, frames_to_ask, get64, put32, put64, put_names, put_slots, segments_for, sheet, version,
-    Row, Slot, GROWING, MAGIC, SEGMENT, V1_0, V2_1, VERSIONS,
+    array_length, blank, frames_to_ask, get64, put32, put64, put_names, put_slots, segments_for,
+    sheet, version, Row, Slot, GROWING, MAGIC, SEGMENT, V1_0, V2_1, VERSIONS,
 };
 use crate::library::{Create, Library, Reference, STATE_WORDS};
 use crate::moving::{self, Moving};
@@ -61,6 +61,8 @@ pub const GROUPS: &[Group] = &[
     group("readers of earlier moments", 800, readers::of_earlier_moments),
     group("any words as a reader", 6000, readers::any_words),
     group("NChilada files", 150_000, nchilada),
+    group("RawArray files of chunks", 60_000, arrays_written),
+    group("RawArray files as sheets", 200_000, arrays_read),
 ];
 
 /// Every call once, on whatever the image is.
@@ -73,6 +75,9 @@ fn touch(check: &mut Check, sheet: &[u8], limit: u64) {
     check.chunk(0, b"a");
     check.element(0, b"a", 0);
     check.nchilada(0, b"a", 1.0, 40);
+    check.rawarray_write(0, b"a", 74);
+    let image = check.image().to_vec();
+    check.rawarray_read(&image, b"a", 31);
     check.append(sheet, limit);
 }
 
@@ -673,6 +678,10 @@ fn longest(check: &mut Check, _: &mut Rng) {
             let a = library.nchilada(theirs, 0, b"b", 60.0, &mut x);
             let b = Reference.nchilada(ours, 0, b"b", 60.0, &mut y);
             both(check, "nchilada", (a, &x.map(u64::from)), (b, &y.map(u64::from)));
+            let (mut x, mut y) = ([5; 564], [5; 564]);
+            let a = library.rawarray_write(theirs, 0, b"b", &mut x);
+            let b = Reference.rawarray_write(ours, 0, b"b", &mut y);
+            both(check, "rawarray_write", (a, &x.map(u64::from)), (b, &y.map(u64::from)));
             if joined {
                 let (mut x, mut y) = ([5; 3], [5; 3]);
                 let a = library.append(theirs, &sheet, limit, &mut x);
@@ -696,6 +705,18 @@ fn longest(check: &mut Check, _: &mut Rng) {
                 check.fail(|| "append on a long slice: other bytes".into());
             }
         }
+    }
+    // No RawArray file is too long: with little data, as much as there is, and a byte more.
+    theirs[..8].copy_from_slice(b"rawarray");
+    for (length, more) in [(24, 0), (LONGEST + 1 - 56, 0), (LONGEST + 1 - 56, 1)] {
+        let words = [0, 2, 1, length + more, 1, length + more];
+        for (n, word) in words.into_iter().enumerate() {
+            put64(theirs, 8 * (n + 1), word as u64);
+        }
+        let (mut x, mut y) = ([5; 45], [5; 45]);
+        let a = library.rawarray_read(theirs, b"a", &mut x);
+        let b = Reference.rawarray_read(theirs, b"a", &mut y);
+        both(check, "rawarray_read", (a, &x.map(u64::from)), (b, &y.map(u64::from)));
     }
 }
 
@@ -918,5 +939,62 @@ fn nchilada(check: &mut Check, rng: &mut Rng) {
         };
         let length = rng.below(80);
         check.nchilada(frame, name, generate::step(rng, frame), length);
+    }
+}
+
+/// The RawArray file of every chunk, and of chunks that are not there; what becomes of these files, and an
+/// append of that.
+fn arrays_written(check: &mut Check, rng: &mut Rng) {
+    let (image, names) = if rng.chance(30) {
+        generate::gapped(rng)
+    } else {
+        let mut layout = generate::odd(rng);
+        match rng.below(12) {
+            0 => layout.bend(rng),
+            1 => layout.damage(rng),
+            _ => {}
+        }
+        (layout.image, layout.names)
+    };
+    check.load(&image);
+    let entries = Reference.all_entries(&image).unwrap_or_default();
+    let mut sheets = Vec::new();
+    for &entry in &entries {
+        let name = Reference.nth_name(&image, entry[4]).unwrap();
+        for _ in 0..2 {
+            let length = generate::some_array_length(rng, entry);
+            check.rawarray_write(entry[0], name, length);
+        }
+        let mut file = Reference.array(&image, entry[0], name, array_length(entry)).unwrap();
+        if rng.chance(30) {
+            generate::bend_array(rng, &mut file);
+        }
+        let under = generate::array_name(rng);
+        let length = generate::some_sheet_length(rng, &file, &under);
+        check.rawarray_read(&file, &under, length);
+        sheets.extend(Reference.sheet_of(&file, &under, length));
+    }
+    let behind = entries.last().map_or(0, |last| last[0] + 1);
+    for _ in 0..2 {
+        let frame = rng.pick(&[0, 1, behind / 2, behind, behind + (1 << 32) - 1, u64::MAX]);
+        let name = match names.len() {
+            1.. if rng.chance(75) => rng.pick_ref(&names),
+            _ => rng.pick(&ODD_NAMES),
+        };
+        let length = rng.below(100);
+        check.rawarray_write(frame, name, length);
+    }
+    if let Some(sheet) = sheets.last() {
+        check.append(sheet, generate::limit(rng));
+    }
+}
+
+/// RawArray files, right or wrong, under names of all kinds. An image has no part in it.
+fn arrays_read(check: &mut Check, rng: &mut Rng) {
+    check.load(b"");
+    for _ in 0..3 {
+        let (file, name) = (generate::array_file(rng), generate::array_name(rng));
+        let length = generate::some_sheet_length(rng, &file, &name);
+        check.rawarray_read(&file, &name, length);
     }
 }

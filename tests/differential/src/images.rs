@@ -205,6 +205,11 @@ pub fn file_length([_, n, _, m, _, kind, _]: [u64; 7]) -> usize {
     length.min(most) as usize
 }
 
+/// How long the RawArray file of a chunk is, by the fields of its entry.
+pub fn array_length([_, n, _, m, _, kind, _]: [u64; 7]) -> usize {
+    64 + n.wrapping_mul(m) as usize * size(kind as u8)
+}
+
 pub fn sheet(rows: &[Row]) -> Vec<u8> {
     let mut sheet = (rows.len() as u32).to_le_bytes().to_vec();
     for row in rows {

@@ -35,6 +35,11 @@ pub trait Library: Sync {
     /// Writes the NChilada file of a chunk, its time the frame times the step, into all of `file`; a
     /// refusal leaves that as it was.
     fn nchilada(&self, image: &[u8], frame: u64, name: &[u8], step: f64, file: &mut [u8]) -> u64;
+    /// Writes the RawArray file of a chunk into all of `file`; a refusal leaves that as it was.
+    fn rawarray_write(&self, image: &[u8], frame: u64, name: &[u8], file: &mut [u8]) -> u64;
+    /// Writes the sheet of one row that a RawArray file becomes under a name into all of `sheet`; a
+    /// refusal leaves that as it was.
+    fn rawarray_read(&self, file: &[u8], name: &[u8], sheet: &mut [u8]) -> u64;
     fn create(&self, image: &mut [u8], request: Create) -> u64;
     /// `out`: done, whole, and the listed entries that the whole append copies as it moves the index.
     fn append(&self, image: &mut [u8], sheet: &[u8], limit: u64, out: &mut [u64; 3]) -> u64;
@@ -178,6 +183,14 @@ impl Library for Reference {
 
     fn nchilada(&self, image: &[u8], frame: u64, name: &[u8], step: f64, file: &mut [u8]) -> u64 {
         reference::nchilada(image, frame, name, step, file).err().unwrap_or(0)
+    }
+
+    fn rawarray_write(&self, image: &[u8], frame: u64, name: &[u8], file: &mut [u8]) -> u64 {
+        reference::rawarray_write(image, frame, name, file).err().unwrap_or(0)
+    }
+
+    fn rawarray_read(&self, file: &[u8], name: &[u8], sheet: &mut [u8]) -> u64 {
+        reference::rawarray_read(file, name, sheet).err().unwrap_or(0)
     }
 
     fn create(&self, image: &mut [u8], request: Create) -> u64 {
@@ -358,6 +371,22 @@ mod linked {
             unsafe {
                 ffi::dialmoth_nchilada(image, length, frame, name, name_length, step, file, size)
             }
+        }
+
+        fn rawarray_write(&self, image: &[u8], frame: u64, name: &[u8], file: &mut [u8]) -> u64 {
+            let (image, length) = (image.as_ptr(), image.len());
+            let (name, name_length) = (name.as_ptr(), name.len());
+            let (file, size) = (file.as_mut_ptr(), file.len());
+            unsafe {
+                ffi::dialmoth_rawarray_write(image, length, frame, name, name_length, file, size)
+            }
+        }
+
+        fn rawarray_read(&self, file: &[u8], name: &[u8], sheet: &mut [u8]) -> u64 {
+            let (file, length) = (file.as_ptr(), file.len());
+            let (name, name_length) = (name.as_ptr(), name.len());
+            let (sheet, size) = (sheet.as_mut_ptr(), sheet.len());
+            unsafe { ffi::dialmoth_rawarray_read(file, length, name, name_length, sheet, size) }
         }
 
         fn create(&self, image: &mut [u8], request: Create) -> u64 {

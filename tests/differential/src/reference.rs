@@ -1,4 +1,4 @@
-//! Document 01 in plain Rust, with what document 02 has changed of it (W-201 to W-208, W-211 and
+//! Document 01 in plain Rust, with what document 02 has changed of it (W-201 to W-209, W-211 and
 //! W-214), written from the papers alone.
 //!
 //! It is the independent second opinion of the differential tests and the baseline of the
@@ -27,6 +27,13 @@ const GREATEST_FRAME: u64 = 4_294_967_294;
 const NCHILADA_MAGIC: u32 = 1_062_053;
 /// Bytes of it before the extremes.
 const NCHILADA_HEADER: usize = 28;
+
+/// The first bytes of a RawArray file.
+const RAWARRAY_MAGIC: &[u8] = b"rawarray";
+/// Bytes of it before the dimensions.
+const RAWARRAY_FRONT: usize = 48;
+/// Bytes before the data where there are two.
+const RAWARRAY_HEADER: usize = RAWARRAY_FRONT + 2 * WORD;
 
 /// Words of the state of an append in turns.
 pub const STATE_WORDS: usize = 406;
@@ -647,6 +654,105 @@ fn put_extremes<F: Copy + PartialOrd, const SIZE: usize, const COLUMNS: usize>(
     let extremes = smallest.into_iter().chain(largest);
     to.iter_mut().zip(extremes).for_each(|(to, value)| *to = big_endian(value));
     2 * COLUMNS
+}
+
+/// Writes the RawArray file of a chunk, its numbers little-endian.
+pub fn rawarray_write(image: &[u8], frame: u64, name: &[u8], file: &mut [u8]) -> Answer<()> {
+    let image = Image::open(image)?;
+    let entry = image.lookup(frame, name)?;
+    let data = image.data(entry);
+    if file.len() != RAWARRAY_HEADER + data.len() {
+        return Err(77);
+    }
+    let Entry { n, m, kind, .. } = entry;
+    let code = match kind {
+        5..=8 => 1,
+        9 | 10 => 3,
+        _ => 2,
+    };
+    let width = image.version.size_of(kind).unwrap_or_default();
+    let words = [0, code, width, data.len() as u64, 2, m.into(), n].map(u64::to_le_bytes);
+    let (header, rest) = file.split_at_mut(RAWARRAY_HEADER);
+    let (magic, numbers) = header.split_at_mut(WORD);
+    magic.copy_from_slice(RAWARRAY_MAGIC);
+    numbers.copy_from_slice(words.as_flattened());
+    rest.copy_from_slice(data);
+    Ok(())
+}
+
+/// The chunk that a RawArray file holds.
+struct Held<'f> {
+    n: u64,
+    m: u32,
+    kind: u8,
+    data: &'f [u8],
+}
+
+impl<'f> Held<'f> {
+    fn of(file: &'f [u8]) -> Answer<Held<'f>> {
+        let (front, rest) = file.split_at_checked(RAWARRAY_FRONT).ok_or(70_u64)?;
+        if !front.starts_with(RAWARRAY_MAGIC) {
+            return Err(71);
+        }
+        if u64_at(front, 8) != 0 {
+            return Err(72);
+        }
+        let [code, width, length, dimensions] = [16, 24, 32, 40].map(|at| u64_at(front, at));
+        let kind = match (code, width) {
+            (2, 1) => 1,
+            (2, 2) => 2,
+            (2, 4) => 3,
+            (2, 8) => 4,
+            (1, 1) => 5,
+            (1, 2) => 6,
+            (1, 4) => 7,
+            (1, 8) => 8,
+            (3, 4) => 9,
+            (3, 8) => 10,
+            _ => return Err(73),
+        };
+        let places = match dimensions {
+            1 => WORD,
+            2 => 2 * WORD,
+            _ => return Err(74),
+        };
+        let (shape, rest) = rest.split_at_checked(places).ok_or(74_u64)?;
+        // The first dimension is the fast one; a single one is that of rows.
+        let (m, n) = match dimensions {
+            1 => (1, u64_at(shape, 0)),
+            _ => (u64_at(shape, 0), u64_at(shape, WORD)),
+        };
+        let elements = u128::from(m) * u128::from(n);
+        if elements.checked_mul(width.into()) != Some(length.into()) {
+            return Err(75);
+        }
+        let length = usize::try_from(length).map_err(|_| 75_u64)?;
+        let data = rest.get(..length).ok_or(75_u64)?;
+        let m = u32::try_from(m).map_err(|_| 76_u64)?;
+        Ok(Held { n, m, kind, data })
+    }
+}
+
+/// Reads a RawArray file back into the sheet of one row.
+pub fn rawarray_read(file: &[u8], name: &[u8], sheet: &mut [u8]) -> Answer<()> {
+    let Held { n, m, kind, data } = Held::of(file)?;
+    let name_length = match u8::try_from(name.len()) {
+        Ok(length @ 1..) if !name.contains(&0) => length,
+        _ => return Err(78),
+    };
+    let table = table_end(1);
+    if sheet.len() != table + name.len() + data.len() {
+        return Err(79);
+    }
+    let (row, bodies) = sheet.split_at_mut(table);
+    row[..4].copy_from_slice(&1_u32.to_le_bytes());
+    row[4..12].copy_from_slice(&n.to_le_bytes());
+    row[12..16].copy_from_slice(&m.to_le_bytes());
+    row[16..].copy_from_slice(&[kind, name_length, 0, 0]);
+    let (text, body) = bodies.split_at_mut(name.len());
+    text.copy_from_slice(name);
+    body.copy_from_slice(data);
+    Ok(())
 }
 
 pub fn probes(image: &[u8], frame: u64, name: &[u8]) -> Probes {

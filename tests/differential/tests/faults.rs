@@ -328,6 +328,17 @@ fn nchilada_files_notice_what_breaks_them() {
     run_notices("NChilada files", &of_files.copied().collect::<Vec<_>>());
 }
 
+/// All faults of RawArray files, those written and those read, each by such files alone.
+#[test]
+fn rawarray_files_notice_what_breaks_them() {
+    for (part, group) in
+        [("ArrayOut", "RawArray files of chunks"), ("ArrayIn", "RawArray files as sheets")]
+    {
+        let of_part = Fault::ALL.iter().filter(|fault| format!("{fault:?}").starts_with(part));
+        run_notices(group, &of_part.copied().collect::<Vec<_>>());
+    }
+}
+
 /// An index that grows otherwise breaks the bounds of what is copied in all, though each append
 /// answers what it copies.
 #[test]

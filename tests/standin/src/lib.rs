@@ -114,6 +114,37 @@ pub unsafe extern "C" fn dialmoth_nchilada(
 /// # Safety
 /// As `dialmoth_open`.
 #[no_mangle]
+pub unsafe extern "C" fn dialmoth_rawarray_write(
+    image: *const u8,
+    length: usize,
+    frame: u64,
+    name: *const u8,
+    name_length: usize,
+    file: *mut u8,
+    file_length: usize,
+) -> u64 {
+    let (image, name) = (part(image, length), part(name, name_length));
+    Reference.rawarray_write(image, frame, name, part_mut(file, file_length))
+}
+
+/// # Safety
+/// As `dialmoth_open`.
+#[no_mangle]
+pub unsafe extern "C" fn dialmoth_rawarray_read(
+    file: *const u8,
+    file_length: usize,
+    name: *const u8,
+    name_length: usize,
+    sheet: *mut u8,
+    sheet_length: usize,
+) -> u64 {
+    let (file, name) = (part(file, file_length), part(name, name_length));
+    Reference.rawarray_read(file, name, part_mut(sheet, sheet_length))
+}
+
+/// # Safety
+/// As `dialmoth_open`.
+#[no_mangle]
 pub unsafe extern "C" fn dialmoth_create(
     image: *mut u8,
     length: usize,
