@@ -236,8 +236,8 @@ module _ (m y : List ℕ) (opens : verdict m ≡ 0) (kept : InPlace m y) where
   unfolding fits reader_of layout_of
   fits-there =
       let short : length y ≤ greatest_length = omega (arith, kept.long, o.front.high) in
-      let index : (layout_of m).index + 32 * length (entries_of m) ≤ length y = omega (arith, kept.long, len, o.blocks.index_high, listed.few) in
-      let names : (layout_of m).namelist + list_size (layout_of m).version (names_of m) ≤ length y =
+      let index : (reader_of m).index + 32 * (reader_of m).entries ≤ length y = omega (arith, kept.long, len, o.blocks.index_high, listed.few) in
+      let names : (reader_of m).namelist + (reader_of m).size ≤ length y =
       omega (arith, kept.long, len, o.blocks.namelist_high, list-few m) in
       both_of _ _ (le-leb _ _ short) (both_of _ _ o.front.versioned (both_of _ _ (le-leb _ _ few) (both_of _ _ (le-leb _ _ index) (le-leb _ _ names))))
 
