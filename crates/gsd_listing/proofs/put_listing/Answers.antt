@@ -20,9 +20,9 @@ pub put_entries-requires : goal.put_entries-requires
 put_entries-requires c =
     let img = c.args.image.now in
     let told = c.survey_of-s.ensures in
-    let good = c.if-s-ne0.false in
-    let verdict = opens img _ _ told good in
-    record { opens = verdict; index = index-there img _ _ told good; counted = told.entries good; count_in_bounds = omega (arith, told.entries good, entries-within img verdict, c.put_line-at.auto.out, c.put_line-at.ensures.bound) }
+    let zero = c.if-s-ne0.false in
+    let verdict = opens img _ _ told zero in
+    record { opens = verdict; index = index-there img _ _ told zero; counted = told.entries zero; count_in_bounds = omega (arith, told.entries zero, entries-within img verdict, c.put_line-at.auto.out, c.put_line-at.ensures.bound) }
 
 pub returns : goal.returns
 returns c =
