@@ -48,7 +48,7 @@ rawread'0=      \
 ";
 
 // Their places in this list: the words that make an image or a sheet, hold a state or set a reader; those that look at the image,
-// make or change it, read it, and read it by the reader.
+// make or change it, read it, and read it by the reader; and those of RawArray files.
 pub const IMAGE: usize = 0;
 
 pub const USE: usize = 1;
