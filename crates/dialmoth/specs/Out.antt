@@ -3,11 +3,9 @@
 use Rattle.std.specs.Prelude.{ℕ, ◌≡◌, List, [], ◌∷◌, length, get_or}
 use Rattle.gsd_format.specs.declared.Reader.{Reader}
 use Rattle.gsd_format.specs.Calls.{probes_of}
-use Rattle.gsd_stores.specs.declared.Appended.{Appended}
-use Rattle.gsd_stores.specs.Append.{append_test, stores_for, copied_entries, append_answer}
+use Rattle.gsd_stores.specs.Append.{Answer, append_test, stores_for, copied_entries, append_answer}
 use Rattle.gsd_states.specs.States.{Began}
-use Rattle.gsd_append.specs.declared.state.Turned.{Turned}
-use Rattle.gsd_append.specs.Turns.{refused_state, turn_answer}
+use Rattle.gsd_append.specs.Turns.{Turned, refused_state, turn_answer}
 
 abbrev pub probes_out : List ℕ → ℕ → List ℕ → List ℕ
 probes_out img frame name = length (probes_of img frame name) ∷ []
@@ -26,7 +24,7 @@ reader_in words = record {
 
 abbrev pub append_out : List ℕ → List ℕ → ℕ → List ℕ
 append_out img sheet limit =
-    let answer : Appended = append_answer img sheet limit in
+    let answer : Answer = append_answer img sheet limit in
     answer.done ∷ answer.whole ∷ answer.copied ∷ []
 
 abbrev pub begin_out : List ℕ → List ℕ → List ℕ

@@ -9,7 +9,7 @@ ghost use Rattle.gsd_format.specs.Lookup.{nth_entry, nth_name, lookup, chunk_pla
 ghost use Rattle.gsd_format.specs.Elements.{element};
 ghost use Rattle.gsd_format.specs.Readers.{reading, name_by, entry_by, lookup_by, chunk_place_by, element_by, id_by, find_by, newest_by};
 ghost use Rattle.gsd_format.specs.Create.{create_number, created};
-ghost use Rattle.gsd_format.specs.Answers.{opening_number, listed_number, place_number, element_number, reading_number, ident_number};
+ghost use Rattle.gsd_format.specs.Answers.{number_of};
 ghost use Rattle.gsd_nchilada.specs.Request.{nchilada_number, nchilada_file};
 ghost use Rattle.gsd_rawarray.specs.Requests.{write_test, written_file, read_test, read_sheet};
 ghost use Rattle.gsd_stores.specs.Append.{append_test, appended};
@@ -21,7 +21,7 @@ use gsd_append::{State, append};
 use gsd_create::create;
 use gsd_format::Reader;
 use gsd_nchilada::nchilada;
-use gsd_out::{listed_number, put_counts, put_element, put_entry, put_id, put_part, put_reader};
+use gsd_out::{number_of, put};
 use gsd_rawarray::{rawarray_read, rawarray_write};
 use gsd_read::{chunk_place, element, entry, lookup, name, open, search};
 use gsd_reader::{
@@ -32,61 +32,61 @@ use gsd_states::STATE_WORDS;
 
 // Frames, names, entries.
 pub fn dialmoth_open(image: &[u8], out: &mut [u64; 3]) -> u64
-    ensures number { result ≡ opening_number (opening image.now) }
+    ensures number { result ≡ number_of (opening image.now) }
     ensures out { out.new ≡ opening_out (opening image.now) out.old }
 {
-    put_counts(open(image), out)
+    put(open(image), out)
 }
 
 // Start, length.
 pub fn dialmoth_name(image: &[u8], n: u64, out: &mut [u64; 2]) -> u64
-    ensures number { result ≡ place_number (nth_name image.now n) }
+    ensures number { result ≡ number_of (nth_name image.now n) }
     ensures out { out.new ≡ place_out (nth_name image.now n) out.old }
 {
-    put_part(name(image, n), out)
+    put(name(image, n), out)
 }
 
 // Frame, N, location, M, id, type, flags.
 pub fn dialmoth_entry(image: &[u8], n: u64, out: &mut [u64; 7]) -> u64
-    ensures number { result ≡ listed_number (nth_entry image.now n) }
+    ensures number { result ≡ number_of (nth_entry image.now n) }
     ensures out { out.new ≡ listed_out (nth_entry image.now n) out.old }
 {
-    put_entry(entry(image, n), out)
+    put(entry(image, n), out)
 }
 
 // As dialmoth_entry.
 pub fn dialmoth_lookup(image: &[u8], frame: u64, name: &[u8], out: &mut [u64; 7]) -> u64
-    ensures number { result ≡ listed_number (lookup image.now frame name.now) }
+    ensures number { result ≡ number_of (lookup image.now frame name.now) }
     ensures out { out.new ≡ listed_out (lookup image.now frame name.now) out.old }
 {
-    put_entry(lookup(image, frame, name), out)
+    put(lookup(image, frame, name), out)
 }
 
 // Start, length.
 pub fn dialmoth_chunk(image: &[u8], frame: u64, name: &[u8], out: &mut [u64; 2]) -> u64
-    ensures number { result ≡ place_number (chunk_place image.now frame name.now) }
+    ensures number { result ≡ number_of (chunk_place image.now frame name.now) }
     ensures out { out.new ≡ place_out (chunk_place image.now frame name.now) out.old }
 {
-    put_part(chunk_place(image, frame, name), out)
+    put(chunk_place(image, frame, name), out)
 }
 
 // Kind, bits.
 pub fn dialmoth_element(image: &[u8], frame: u64, name: &[u8], k: u64, out: &mut [u64; 2]) -> u64
-    ensures number { result ≡ element_number (element image.now frame name.now k) }
+    ensures number { result ≡ number_of (element image.now frame name.now k) }
     ensures out { out.new ≡ element_out (element image.now frame name.now k) out.old }
 {
-    put_element(element(image, frame, name, k), out)
+    put(element(image, frame, name, k).answer(), out)
 }
 
 // Entries probed, 0 where the lookup is refused before its search.
 pub fn dialmoth_probes(image: &[u8], frame: u64, name: &[u8], out: &mut [u64; 1]) -> u64
-    ensures number { result ≡ listed_number (lookup image.now frame name.now) }
+    ensures number { result ≡ number_of (lookup image.now frame name.now) }
     ensures out { out.new ≡ probes_out image.now frame name.now }
 {
     let s = search(image, frame, name);
     let answer = s.answer;
     *out = [s.probes];
-    listed_number(answer)
+    number_of(answer)
 }
 
 // The file of a chunk goes into a slice of its length; a refusal writes nothing.
@@ -94,7 +94,7 @@ pub fn dialmoth_nchilada(image: &[u8], frame: u64, name: &[u8], step: f64, file:
     ensures number { result ≡ nchilada_number image.now frame name.now step (length file.old) }
     ensures file { file.new ≡ nchilada_file image.now frame name.now step file.old }
 {
-    nchilada(image, frame, name, step, file)
+    number_of(nchilada(image, frame, name, step, file))
 }
 
 // A chunk as a RawArray file, in a slice of its length; a refusal writes nothing.
@@ -102,7 +102,7 @@ pub fn dialmoth_rawarray_write(image: &[u8], frame: u64, name: &[u8], file: &mut
     ensures number { result ≡ write_test image.now frame name.now (length file.old) }
     ensures file { file.new ≡ written_file image.now frame name.now file.old }
 {
-    rawarray_write(image, frame, name, file)
+    number_of(rawarray_write(image, frame, name, file))
 }
 
 // A RawArray file as the sheet of one row, in a slice of its length; a refusal writes nothing.
@@ -110,15 +110,15 @@ pub fn dialmoth_rawarray_read(file: &[u8], name: &[u8], sheet: &mut [u8]) -> u64
     ensures number { result ≡ read_test file.now name.now (length sheet.old) }
     ensures sheet { sheet.new ≡ read_sheet file.now name.now sheet.old }
 {
-    rawarray_read(file, name, sheet)
+    number_of(rawarray_read(file, name, sheet))
 }
 
 // The reader's words.
 pub fn dialmoth_reader_open(image: &[u8], reader: &mut [u64; 8]) -> u64
-    ensures number { result ≡ reading_number (reading image.now) }
+    ensures number { result ≡ number_of (reading image.now) }
     ensures out { reader.new ≡ reading_out (reading image.now) reader.old }
 {
-    put_reader(open_reader(image), reader)
+    put(open_reader(image), reader)
 }
 
 // The words as a reader; the eighth is not looked at.
@@ -138,18 +138,18 @@ fn reader_in(words: &[u64; 8]) -> Reader
 
 // Start, length.
 pub fn dialmoth_reader_name(reader: &[u64; 8], image: &[u8], n: u64, out: &mut [u64; 2]) -> u64
-    ensures number { result ≡ place_number (name_by (reader_in reader.now) image.now n) }
+    ensures number { result ≡ number_of (name_by (reader_in reader.now) image.now n) }
     ensures out { out.new ≡ place_out (name_by (reader_in reader.now) image.now n) out.old }
 {
-    put_part(name_by(reader_in(reader), image, n), out)
+    put(name_by(reader_in(reader), image, n), out)
 }
 
 // As dialmoth_entry.
 pub fn dialmoth_reader_entry(reader: &[u64; 8], image: &[u8], n: u64, out: &mut [u64; 7]) -> u64
-    ensures number { result ≡ listed_number (entry_by (reader_in reader.now) image.now n) }
+    ensures number { result ≡ number_of (entry_by (reader_in reader.now) image.now n) }
     ensures out { out.new ≡ listed_out (entry_by (reader_in reader.now) image.now n) out.old }
 {
-    put_entry(entry_by(reader_in(reader), image, n), out)
+    put(entry_by(reader_in(reader), image, n), out)
 }
 
 // As dialmoth_entry.
@@ -160,11 +160,11 @@ pub fn dialmoth_reader_lookup(
     name: &[u8],
     out: &mut [u64; 7],
 ) -> u64
-    ensures number { result ≡ listed_number (lookup_by (reader_in reader.now) image.now frame name.now) }
+    ensures number { result ≡ number_of (lookup_by (reader_in reader.now) image.now frame name.now) }
     ensures out { out.new
         ≡ listed_out (lookup_by (reader_in reader.now) image.now frame name.now) out.old }
 {
-    put_entry(lookup_by(reader_in(reader), image, frame, name), out)
+    put(lookup_by(reader_in(reader), image, frame, name), out)
 }
 
 // Start, length.
@@ -175,11 +175,11 @@ pub fn dialmoth_reader_chunk(
     name: &[u8],
     out: &mut [u64; 2],
 ) -> u64
-    ensures number { result ≡ place_number (chunk_place_by (reader_in reader.now) image.now frame name.now) }
+    ensures number { result ≡ number_of (chunk_place_by (reader_in reader.now) image.now frame name.now) }
     ensures out { out.new
         ≡ place_out (chunk_place_by (reader_in reader.now) image.now frame name.now) out.old }
 {
-    put_part(chunk_place_by(reader_in(reader), image, frame, name), out)
+    put(chunk_place_by(reader_in(reader), image, frame, name), out)
 }
 
 // Kind, bits.
@@ -191,20 +191,23 @@ pub fn dialmoth_reader_element(
     k: u64,
     out: &mut [u64; 2],
 ) -> u64
-    ensures number { result ≡ element_number (element_by (reader_in reader.now) image.now frame name.now k) }
+    ensures number { result ≡ number_of (element_by (reader_in reader.now) image.now frame name.now k) }
     ensures out { out.new
         ≡ element_out (element_by (reader_in reader.now) image.now frame name.now k) out.old }
 {
-    put_element(element_by(reader_in(reader), image, frame, name, k), out)
+    put(
+        element_by(reader_in(reader), image, frame, name, k).answer(),
+        out,
+    )
 }
 
 // The id.
 pub fn dialmoth_reader_id(reader: &[u64; 8], image: &[u8], name: &[u8], out: &mut [u64; 1]) -> u64
-    ensures number { result ≡ ident_number (id_by (reader_in reader.now) image.now name.now) }
+    ensures number { result ≡ number_of (id_by (reader_in reader.now) image.now name.now) }
     ensures out { out.new
         ≡ ident_out (id_by (reader_in reader.now) image.now name.now) out.old }
 {
-    put_id(id_by(reader_in(reader), image, name), out)
+    put(id_by(reader_in(reader), image, name), out)
 }
 
 // As dialmoth_entry.
@@ -215,10 +218,10 @@ pub fn dialmoth_reader_find(
     id: u64,
     out: &mut [u64; 7],
 ) -> u64
-    ensures number { result ≡ listed_number (find_by (reader_in reader.now) image.now frame id) }
+    ensures number { result ≡ number_of (find_by (reader_in reader.now) image.now frame id) }
     ensures out { out.new ≡ listed_out (find_by (reader_in reader.now) image.now frame id) out.old }
 {
-    put_entry(find_by(reader_in(reader), image, frame, id), out)
+    put(find_by(reader_in(reader), image, frame, id), out)
 }
 
 // As dialmoth_entry, of the newest frame at or below.
@@ -229,10 +232,10 @@ pub fn dialmoth_reader_newest(
     id: u64,
     out: &mut [u64; 7],
 ) -> u64
-    ensures number { result ≡ listed_number (newest_by (reader_in reader.now) image.now frame id) }
+    ensures number { result ≡ number_of (newest_by (reader_in reader.now) image.now frame id) }
     ensures out { out.new ≡ listed_out (newest_by (reader_in reader.now) image.now frame id) out.old }
 {
-    put_entry(newest_by(reader_in(reader), image, frame, id), out)
+    put(newest_by(reader_in(reader), image, frame, id), out)
 }
 
 // A refusal changes no byte.
@@ -248,7 +251,7 @@ pub fn dialmoth_create(
     ensures image { image.new
         ≡ created image.old application.now schema.now schema_version slots segments }
 {
-    create(image, application, schema, schema_version, slots, segments)
+    number_of(create(image, application, schema, schema_version, slots, segments))
 }
 
 // Stores done, stores of the whole append, listed entries that it copies: three zeros where it is refused, which changes no
@@ -258,12 +261,20 @@ pub fn dialmoth_append(image: &mut [u8], sheet: &[u8], limit: u64, out: &mut [u6
     ensures image { image.new ≡ appended image.old sheet.now limit }
     ensures out { out.new ≡ append_out image.old sheet.now limit }
 {
-    let answer = append(image, sheet, limit);
-    *out = [answer.done, answer.whole, answer.copied];
-    answer.number
+    match append(image, sheet, limit) {
+        Ok(answer) => {
+            *out = [answer.done, answer.whole, answer.copied];
+            0
+        }
+        Err(why) => {
+            *out = [0; 3];
+            why.number()
+        }
+    }
 }
 
-// Stores of the whole append, listed entries that it copies: two zeros where it is refused. The state is set at every call.
+// Stores of the whole append, listed entries that it copies: two zeros where it is refused. The state is set at every call. A match
+// of its own, as append and turn have: each hands out other values, and two a state.
 pub fn dialmoth_begin(
     image: &[u8],
     sheet: &[u8],
@@ -274,12 +285,21 @@ pub fn dialmoth_begin(
     ensures state { BeginState image.now sheet.now state.new }
     ensures out { out.new ≡ begin_out image.now sheet.now }
 {
-    let begun = State::begin(image, sheet);
-    let given = begun.state;
-    let words = given.words;
-    *state = words;
-    *out = [begun.whole, begun.copied];
-    begun.number
+    match State::begin(image, sheet) {
+        Ok(begun) => {
+            *out = [begun.whole, begun.copied];
+            let words = begun.state.words;
+            *state = words;
+            0
+        }
+        Err(why) => {
+            *out = [0; 2];
+            let refused = State::refused();
+            let words = refused.words;
+            *state = words;
+            why.number()
+        }
+    }
 }
 
 // Stores made by this turn, 0 where it is refused, which changes neither the image nor the state.
@@ -296,10 +316,18 @@ pub fn dialmoth_turn(
     ensures out { out.new ≡ (turn_of state.old image.old sheet.now limit).made ∷ [] }
 {
     let words = *state;
-    let turned = State { words }.turn(image, sheet, limit);
-    let given = turned.state;
+    let turn = State { words }.turn(image, sheet, limit);
+    let given = turn.state;
     let words = given.words;
     *state = words;
-    *out = [turned.made];
-    turned.number
+    match turn.made {
+        Ok(made) => {
+            *out = [made];
+            0
+        }
+        Err(why) => {
+            *out = [0];
+            why.number()
+        }
+    }
 }

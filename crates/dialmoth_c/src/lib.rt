@@ -8,7 +8,7 @@ ghost use Rattle.gsd_format.specs.Lookup.{nth_entry, nth_name, lookup, chunk_pla
 ghost use Rattle.gsd_format.specs.Elements.{element};
 ghost use Rattle.gsd_format.specs.Readers.{reading, name_by, entry_by, lookup_by, chunk_place_by, element_by, id_by, find_by, newest_by};
 ghost use Rattle.gsd_format.specs.Create.{create_number, created};
-ghost use Rattle.gsd_format.specs.Answers.{opening_number, listed_number, place_number, element_number, reading_number, ident_number};
+ghost use Rattle.gsd_format.specs.Answers.{number_of};
 ghost use Rattle.gsd_nchilada.specs.Request.{nchilada_number, nchilada_file};
 ghost use Rattle.gsd_rawarray.specs.Requests.{write_test, written_file, read_test, read_sheet};
 ghost use Rattle.gsd_stores.specs.Append.{append_test, appended};
@@ -21,7 +21,7 @@ use gsd_states::STATE_WORDS;
 // Frames, names, entries.
 #[unsafe(no_mangle)]
 pub extern "C" fn dialmoth_open(image: &[u8], out: &mut [u64; 3]) -> u64
-    ensures number { result ≡ opening_number (opening image.now) }
+    ensures number { result ≡ number_of (opening image.now) }
     ensures out { out.new ≡ opening_out (opening image.now) out.old }
 {
     dialmoth::dialmoth_open(image, out)
@@ -30,7 +30,7 @@ pub extern "C" fn dialmoth_open(image: &[u8], out: &mut [u64; 3]) -> u64
 // Start, length.
 #[unsafe(no_mangle)]
 pub extern "C" fn dialmoth_name(image: &[u8], n: u64, out: &mut [u64; 2]) -> u64
-    ensures number { result ≡ place_number (nth_name image.now n) }
+    ensures number { result ≡ number_of (nth_name image.now n) }
     ensures out { out.new ≡ place_out (nth_name image.now n) out.old }
 {
     dialmoth::dialmoth_name(image, n, out)
@@ -39,7 +39,7 @@ pub extern "C" fn dialmoth_name(image: &[u8], n: u64, out: &mut [u64; 2]) -> u64
 // Frame, N, location, M, id, type, flags.
 #[unsafe(no_mangle)]
 pub extern "C" fn dialmoth_entry(image: &[u8], n: u64, out: &mut [u64; 7]) -> u64
-    ensures number { result ≡ listed_number (nth_entry image.now n) }
+    ensures number { result ≡ number_of (nth_entry image.now n) }
     ensures out { out.new ≡ listed_out (nth_entry image.now n) out.old }
 {
     dialmoth::dialmoth_entry(image, n, out)
@@ -48,7 +48,7 @@ pub extern "C" fn dialmoth_entry(image: &[u8], n: u64, out: &mut [u64; 7]) -> u6
 // As dialmoth_entry.
 #[unsafe(no_mangle)]
 pub extern "C" fn dialmoth_lookup(image: &[u8], frame: u64, name: &[u8], out: &mut [u64; 7]) -> u64
-    ensures number { result ≡ listed_number (lookup image.now frame name.now) }
+    ensures number { result ≡ number_of (lookup image.now frame name.now) }
     ensures out { out.new ≡ listed_out (lookup image.now frame name.now) out.old }
 {
     dialmoth::dialmoth_lookup(image, frame, name, out)
@@ -57,7 +57,7 @@ pub extern "C" fn dialmoth_lookup(image: &[u8], frame: u64, name: &[u8], out: &m
 // Start, length.
 #[unsafe(no_mangle)]
 pub extern "C" fn dialmoth_chunk(image: &[u8], frame: u64, name: &[u8], out: &mut [u64; 2]) -> u64
-    ensures number { result ≡ place_number (chunk_place image.now frame name.now) }
+    ensures number { result ≡ number_of (chunk_place image.now frame name.now) }
     ensures out { out.new ≡ place_out (chunk_place image.now frame name.now) out.old }
 {
     dialmoth::dialmoth_chunk(image, frame, name, out)
@@ -72,7 +72,7 @@ pub extern "C" fn dialmoth_element(
     k: u64,
     out: &mut [u64; 2],
 ) -> u64
-    ensures number { result ≡ element_number (element image.now frame name.now k) }
+    ensures number { result ≡ number_of (element image.now frame name.now k) }
     ensures out { out.new ≡ element_out (element image.now frame name.now k) out.old }
 {
     dialmoth::dialmoth_element(image, frame, name, k, out)
@@ -81,7 +81,7 @@ pub extern "C" fn dialmoth_element(
 // Entries probed, 0 where the lookup is refused before its search.
 #[unsafe(no_mangle)]
 pub extern "C" fn dialmoth_probes(image: &[u8], frame: u64, name: &[u8], out: &mut [u64; 1]) -> u64
-    ensures number { result ≡ listed_number (lookup image.now frame name.now) }
+    ensures number { result ≡ number_of (lookup image.now frame name.now) }
     ensures out { out.new ≡ probes_out image.now frame name.now }
 {
     dialmoth::dialmoth_probes(image, frame, name, out)
@@ -128,7 +128,7 @@ pub extern "C" fn dialmoth_rawarray_read(file: &[u8], name: &[u8], sheet: &mut [
 // The reader's words.
 #[unsafe(no_mangle)]
 pub extern "C" fn dialmoth_reader_open(image: &[u8], reader: &mut [u64; 8]) -> u64
-    ensures number { result ≡ reading_number (reading image.now) }
+    ensures number { result ≡ number_of (reading image.now) }
     ensures out { reader.new ≡ reading_out (reading image.now) reader.old }
 {
     dialmoth::dialmoth_reader_open(image, reader)
@@ -142,7 +142,7 @@ pub extern "C" fn dialmoth_reader_name(
     n: u64,
     out: &mut [u64; 2],
 ) -> u64
-    ensures number { result ≡ place_number (name_by (reader_in reader.now) image.now n) }
+    ensures number { result ≡ number_of (name_by (reader_in reader.now) image.now n) }
     ensures out { out.new ≡ place_out (name_by (reader_in reader.now) image.now n) out.old }
 {
     dialmoth::dialmoth_reader_name(reader, image, n, out)
@@ -156,7 +156,7 @@ pub extern "C" fn dialmoth_reader_entry(
     n: u64,
     out: &mut [u64; 7],
 ) -> u64
-    ensures number { result ≡ listed_number (entry_by (reader_in reader.now) image.now n) }
+    ensures number { result ≡ number_of (entry_by (reader_in reader.now) image.now n) }
     ensures out { out.new ≡ listed_out (entry_by (reader_in reader.now) image.now n) out.old }
 {
     dialmoth::dialmoth_reader_entry(reader, image, n, out)
@@ -171,7 +171,7 @@ pub extern "C" fn dialmoth_reader_lookup(
     name: &[u8],
     out: &mut [u64; 7],
 ) -> u64
-    ensures number { result ≡ listed_number (lookup_by (reader_in reader.now) image.now frame name.now) }
+    ensures number { result ≡ number_of (lookup_by (reader_in reader.now) image.now frame name.now) }
     ensures out { out.new
         ≡ listed_out (lookup_by (reader_in reader.now) image.now frame name.now) out.old }
 {
@@ -187,7 +187,7 @@ pub extern "C" fn dialmoth_reader_chunk(
     name: &[u8],
     out: &mut [u64; 2],
 ) -> u64
-    ensures number { result ≡ place_number (chunk_place_by (reader_in reader.now) image.now frame name.now) }
+    ensures number { result ≡ number_of (chunk_place_by (reader_in reader.now) image.now frame name.now) }
     ensures out { out.new
         ≡ place_out (chunk_place_by (reader_in reader.now) image.now frame name.now) out.old }
 {
@@ -204,7 +204,7 @@ pub extern "C" fn dialmoth_reader_element(
     k: u64,
     out: &mut [u64; 2],
 ) -> u64
-    ensures number { result ≡ element_number (element_by (reader_in reader.now) image.now frame name.now k) }
+    ensures number { result ≡ number_of (element_by (reader_in reader.now) image.now frame name.now k) }
     ensures out { out.new
         ≡ element_out (element_by (reader_in reader.now) image.now frame name.now k) out.old }
 {
@@ -219,7 +219,7 @@ pub extern "C" fn dialmoth_reader_id(
     name: &[u8],
     out: &mut [u64; 1],
 ) -> u64
-    ensures number { result ≡ ident_number (id_by (reader_in reader.now) image.now name.now) }
+    ensures number { result ≡ number_of (id_by (reader_in reader.now) image.now name.now) }
     ensures out { out.new
         ≡ ident_out (id_by (reader_in reader.now) image.now name.now) out.old }
 {
@@ -235,7 +235,7 @@ pub extern "C" fn dialmoth_reader_find(
     id: u64,
     out: &mut [u64; 7],
 ) -> u64
-    ensures number { result ≡ listed_number (find_by (reader_in reader.now) image.now frame id) }
+    ensures number { result ≡ number_of (find_by (reader_in reader.now) image.now frame id) }
     ensures out { out.new ≡ listed_out (find_by (reader_in reader.now) image.now frame id) out.old }
 {
     dialmoth::dialmoth_reader_find(reader, image, frame, id, out)
@@ -250,7 +250,7 @@ pub extern "C" fn dialmoth_reader_newest(
     id: u64,
     out: &mut [u64; 7],
 ) -> u64
-    ensures number { result ≡ listed_number (newest_by (reader_in reader.now) image.now frame id) }
+    ensures number { result ≡ number_of (newest_by (reader_in reader.now) image.now frame id) }
     ensures out { out.new ≡ listed_out (newest_by (reader_in reader.now) image.now frame id) out.old }
 {
     dialmoth::dialmoth_reader_newest(reader, image, frame, id, out)

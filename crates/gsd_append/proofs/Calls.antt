@@ -1,5 +1,6 @@
 -- Calls by the contracts that are made of the functions: of the joined append, of a beginning and of a turn. A weaker `ensures` is
 -- refused here. A beginning with its turns, each on what the one before left, is one append with their limits summed.
+use Rattle.std.specs.Prelude.{Result}
 use Prim.Native.Nat.{ℕ, ◌+◌, ◌-◌, min}
 use mathlib.Core.Path.{◌≡◌, refl, sym, ◌∙◌, ap, subst}
 use mathlib.Core.Bool.{true, false}
@@ -12,15 +13,16 @@ use contract.Lifetimes.{Lfts}
 use denote.Triple.Clauses.{AtExit}
 use borrow.Fn.World.{ArgsD}
 use borrow.Fn.Kinds.{ended_of}
-use Rattle.gsd_stores.specs.declared.Appended.{Appended}
+use Rattle.gsd_format.specs.declared.refusal.Refusal.{Refusal}
 use Rattle.gsd_stores.specs.Stores.{after}
-use Rattle.gsd_stores.specs.Append.{stores_for, append_answer, appended}
+use Rattle.gsd_stores.specs.declared.Appended.{Appended}
+use Rattle.gsd_stores.specs.Append.{Answer, answered, stores_for, append_answer, appended}
 use Rattle.gsd_stores.specs.Runs.{Call, after_call}
 use Rattle.gsd_states.specs.States.{expects}
 use Rattle.gsd_append.specs.declared.state.State.{State}
 use Rattle.gsd_append.specs.declared.state.Begun.{Begun}
-use Rattle.gsd_append.specs.declared.state.Turned.{Turned}
-use Rattle.gsd_append.specs.Turns.{refused_state, Begins, turn_made, turn_image, turn_answer}
+use Rattle.gsd_append.specs.declared.state.Turn.{Turn}
+use Rattle.gsd_append.specs.Turns.{refused_state, Beginning, beginning, Begins, turn_made, turn_image, Turned, turned, turn_answer}
 use Rattle.gsd_states.proofs.Appends.{refused-append}
 use Rattle.gsd_append.proofs.Turns.{turn-count, refused-turn, Given, Touches, given-refused, given_made, given-end, given-touches, given-next}
 use Rattle.gsd_append.proofs.Turns.{Reached, begins-reached, reached-given, reached-made, reached-next}
@@ -35,7 +37,7 @@ use Rattle.gsd_append.proofs.state.State.turn.Kinds as turn-kinds
 use Rattle.gsd_append.proofs.state.State.turn.Reads as turn-reads
 
 -- `append`, on the image x: it answered r and left y
-pub record Called (x : List ℕ) (c : Call) (r : Appended) (y : List ℕ) : Type 0 where
+pub record Called (x : List ℕ) (c : Call) (r : Answer) (y : List ℕ) : Type 0 where
   pub lifetimes : Lfts 2
   pub args : ArgsD append.signature lifetimes
   pub exit : AtExit (ended_of 2 append-kinds.ps append-kinds.r) lifetimes
@@ -43,27 +45,31 @@ pub record Called (x : List ℕ) (c : Call) (r : Appended) (y : List ℕ) : Type
   pub on_sheet : args.1.0.now ≡ c.sheet
   pub with_limit : args.1.1.0 ≡ c.limit
   pub left : exit.0.now ≡ y
-  pub ensured : append-reads.Learnt lifetimes args r exit
+  pub result : Result Appended Refusal
+  pub answer : r ≡ answered result
+  pub ensured : append-reads.Learnt lifetimes args result exit
 
 -- so the answer is that of the definition, and the image is
-module _ {x : List ℕ} {c : Call} {r : Appended} {y : List ℕ} (q : Called x c r y) where
+module _ {x : List ℕ} {c : Call} {r : Answer} {y : List ℕ} (q : Called x c r y) where
   pub call-answers : r ≡ append_answer x c.sheet c.limit
-  call-answers = q.ensured.0 ∙ (λ i. append_answer (q.on_image i) (q.on_sheet i) (q.with_limit i))
+  call-answers = q.answer ∙ q.ensured.0 ∙ (λ i. append_answer (q.on_image i) (q.on_sheet i) (q.with_limit i))
 
   pub call-leaves : y ≡ after_call x c
   call-leaves = sym q.left ∙ q.ensured.1 ∙ (λ i. appended (q.on_image i) (q.on_sheet i) (q.with_limit i))
 
 -- `State::begin`, on the image x and with the sheet: it answered b
-pub record BeginCalled (x sheet : List ℕ) (b : Begun) : Type 0 where
+pub record BeginCalled (x sheet : List ℕ) (b : Beginning) : Type 0 where
   pub lifetimes : Lfts 2
   pub args : ArgsD begin.signature lifetimes
   pub exit : AtExit (ended_of 2 begin-kinds.ps begin-kinds.r) lifetimes
   pub on_image : args.0.now ≡ x
   pub on_sheet : args.1.0.now ≡ sheet
-  pub ensured : begin-reads.Learnt lifetimes args b exit
+  pub result : Result Begun Refusal
+  pub answer : b ≡ beginning result
+  pub ensured : begin-reads.Learnt lifetimes args result exit
 
-pub begin-answers : {x sheet : List ℕ} {b : Begun} → BeginCalled x sheet b → Begins x sheet b
-begin-answers {b = b} q = rw (← q.on_image, ← q.on_sheet) q.ensured
+pub begin-answers : {x sheet : List ℕ} {b : Beginning} → BeginCalled x sheet b → Begins x sheet b
+begin-answers {b = b} q = rw (q.answer, ← q.on_image, ← q.on_sheet) q.ensured
 
 -- `State::turn`, of the state s, on the image x and with the sheet and a limit: it answered t and left y
 pub record TurnCalled (s : State) (x sheet : List ℕ) (limit : ℕ) (t : Turned) (y : List ℕ) : Type 0 where
@@ -75,11 +81,13 @@ pub record TurnCalled (s : State) (x sheet : List ℕ) (limit : ℕ) (t : Turned
   pub on_sheet : args.1.1.0.now ≡ sheet
   pub with_limit : args.1.1.1.0 ≡ limit
   pub left : exit.1.0.now ≡ y
-  pub ensured : turn-reads.Learnt lifetimes args t exit
+  pub result : Turn
+  pub answer : t ≡ turned result.made result.state
+  pub ensured : turn-reads.Learnt lifetimes args result exit
 
 module _ {s : State} {x sheet : List ℕ} {limit : ℕ} {t : Turned} {y : List ℕ} (q : TurnCalled s x sheet limit t y) where
   pub turn-answers : t ≡ turn_answer s x sheet limit
-  turn-answers = q.ensured.0 ∙ (λ i. turn_answer (q.of_state i) (q.on_image i) (q.on_sheet i) (q.with_limit i))
+  turn-answers = q.answer ∙ q.ensured.0 ∙ (λ i. turn_answer (q.of_state i) (q.on_image i) (q.on_sheet i) (q.with_limit i))
 
   pub turn-leaves : y ≡ turn_image s x sheet limit
   turn-leaves = sym q.left ∙ q.ensured.1 ∙ (λ i. turn_image (q.of_state i) (q.on_image i) (q.on_sheet i) (q.with_limit i))
@@ -95,7 +103,7 @@ pub turn-asks : (lifetimes : Lfts 2) (args : ArgsD turn.signature lifetimes) →
 turn-asks lifetimes args = tt
 
 -- Without the premise: a state that the append gave, by its beginning or by any turn on it, on whatever image and sheet a turn meets
-pub begins-given : {x sheet : List ℕ} {b : Begun} → BeginCalled x sheet b → b.number ≡ 0 → Given x sheet b.state.words 0
+pub begins-given : {x sheet : List ℕ} {b : Beginning} → BeginCalled x sheet b → b.number ≡ 0 → Given x sheet b.state.words 0
 begins-given {b = b} q z = reached-given b.state (begins-reached (begin-answers q) z)
 
 module _ {x sheet : List ℕ} {s : State} {k : ℕ} (g : Given x sheet s.words k) {y rows : List ℕ} {limit : ℕ} {t : Turned} {z : List ℕ}
@@ -169,8 +177,8 @@ turns-refused {sheet} {x = x} (then {l = l} {m = m} t q more) e =
     (omega (arith, ap (λ t. t.made) said, rest.0), rest.1 ∙ left)
 
 -- A beginning with its turns: it answers the beginning's numbers and the stores that the turns made
-pub record InTurns (x : List ℕ) (c : Call) (r : Appended) (y : List ℕ) : Type 0 where
-  pub begun : Begun
+pub record InTurns (x : List ℕ) (c : Call) (r : Answer) (y : List ℕ) : Type 0 where
+  pub begun : Beginning
   pub begins : BeginCalled x c.sheet begun
   pub limits : List ℕ
   pub last : State
@@ -180,7 +188,7 @@ pub record InTurns (x : List ℕ) (c : Call) (r : Appended) (y : List ℕ) : Typ
   pub answer : r ≡ record { number = begun.number; done = made; whole = begun.whole; copied = begun.copied }
 
 -- its answer, by the stores made, and what it leaves
-answer-is : {x sheet : List ℕ} {b : Begun} → Begins x sheet b → (limit m : ℕ) → m ≡ min limit (length (stores_for x sheet))
+answer-is : {x sheet : List ℕ} {b : Beginning} → Begins x sheet b → (limit m : ℕ) → m ≡ min limit (length (stores_for x sheet))
     → record { number = b.number; done = m; whole = b.whole; copied = b.copied } ≡ append_answer x sheet limit
 unfolding append_answer
 answer-is h limit m e = λ i. record { number = h.number i; done = e i; whole = h.whole i; copied = h.copied i }
@@ -195,7 +203,7 @@ unfolding appended
 image-is {x} {sheet} limit m e r = r.image ∙ ap (λ n. after x (take n (stores_for x sheet))) (zero-add m ∙ e)
 
 -- A beginning with its turns is one append with the summed limit: the whole where that is less, and a refused one where it is refused
-pub turns-append : {x : List ℕ} {c : Call} {r : Appended} {y : List ℕ} → InTurns x c r y → (r ≡ append_answer x c.sheet c.limit) × (y ≡ after_call x c)
+pub turns-append : {x : List ℕ} {c : Call} {r : Answer} {y : List ℕ} → InTurns x c r y → (r ≡ append_answer x c.sheet c.limit) × (y ≡ after_call x c)
 turns-append {x} {c} {r} {y} q = go (ℕ_discrete q.begun.number 0)
   where
     begins : Begins x c.sheet q.begun
@@ -212,7 +220,7 @@ turns-append {x} {c} {r} {y} q = go (ℕ_discrete q.begun.number 0)
         (q.answer ∙ answer-is begins c.limit q.made (end.0 ∙ done-is x c.sheet c.limit same.0), end.1 ∙ same.1)
 
 -- The joined call answers and leaves what a beginning and one turn with its limit do
-pub append-joins : {x y z : List ℕ} {c : Call} {r : Appended} {b : Begun} {t : Turned} → Called x c r y → BeginCalled x c.sheet b
+pub append-joins : {x y z : List ℕ} {c : Call} {r : Answer} {b : Beginning} {t : Turned} → Called x c r y → BeginCalled x c.sheet b
     → TurnCalled b.state x c.sheet c.limit t z
     → (r ≡ record { number = b.number; done = t.made; whole = b.whole; copied = b.copied }) × (y ≡ z)
 append-joins {x} {y} {z} {c} {r} {b} {t} q p l =

@@ -1,5 +1,6 @@
 -- Demand 3 about the append of this crate: from any image that opens, over any appends one after the other, each made by the joined
 -- call or by a beginning and its turns. And that a reader is a snapshot over them.
+use Rattle.std.specs.Prelude.{Ok}
 use Prim.Native.Nat.{ℕ, ◌≤◌}
 use mathlib.Core.Path.{◌≡◌, refl, sym, ◌∙◌, ap, subst}
 use mathlib.Core.Bool.{true}
@@ -8,12 +9,10 @@ use native.Mathlib.Omega.{arith}
 use lib.ListN.{length}
 use borrow.Author.Tests.{eqb-true, leb-true, eq-eqb, le-leb}
 use Rattle.gsd_format.specs.declared.Reader.{Reader}
-use Rattle.gsd_format.specs.declared.Reading.{Reading}
 use Rattle.gsd_format.specs.Opening.{verdict}
 use Rattle.gsd_format.specs.Readers.{reading, Reads}
 use Rattle.gsd_format.proofs.Refusals.{both_true, both_of}
-use Rattle.gsd_stores.specs.declared.Appended.{Appended}
-use Rattle.gsd_stores.specs.Append.{stores_for, append_answer}
+use Rattle.gsd_stores.specs.Append.{Answer, stores_for, append_answer}
 use Rattle.gsd_stores.specs.Runs.{Call, stores_made, after_stores, Moment, during, Follows, from_start, in_call, after_call, after_run, last_store_made}
 use Rattle.gsd_stores.specs.Demand3.{Demand3}
 use Rattle.gsd_stores.proofs.Limits.{stopped}
@@ -24,11 +23,11 @@ use Rattle.gsd_append.proofs.Calls.{Called, call-answers, call-leaves, InTurns, 
 
 -- An append of a run, on the image x: by either way it answered r and left y. In turns the premise is part of `InTurns`: from the
 -- beginning to the last turn nothing else writes the image or the sheet, and each turn takes what the one before gave
-pub data Made (x : List ℕ) (c : Call) (r : Appended) (y : List ℕ) : Type 0 where
+pub data Made (x : List ℕ) (c : Call) (r : Answer) (y : List ℕ) : Type 0 where
   joined : Called x c r y → Made x c r y
   in_turns : InTurns x c r y → Made x c r y
 
-module _ {x : List ℕ} {c : Call} {r : Appended} {y : List ℕ} where
+module _ {x : List ℕ} {c : Call} {r : Answer} {y : List ℕ} where
   pub made-answers : Made x c r y → r ≡ append_answer x c.sheet c.limit
   made-answers (joined q) = call-answers q
   made-answers (in_turns q) = (turns-append q).0
@@ -40,7 +39,7 @@ module _ {x : List ℕ} {c : Call} {r : Appended} {y : List ℕ} where
 -- appends one after the other, each on the image that the one before left: from x to z
 pub data Calls : List ℕ → List Call → List ℕ → Type 0 where
   none : {x : List ℕ} → Calls x [] x
-  then : {x y z : List ℕ} {c : Call} {cs : List Call} (r : Appended) → Made x c r y → Calls y cs z → Calls x (c ∷ cs) z
+  then : {x y z : List ℕ} {c : Call} {cs : List Call} (r : Answer) → Made x c r y → Calls y cs z → Calls x (c ∷ cs) z
 
 pub calls-run : {x z : List ℕ} {cs : List Call} → Calls x cs z → z ≡ after_run x cs
 unfolding after_run
@@ -56,7 +55,7 @@ pub append-keeps : {x z : List ℕ} {cs : List Call} → verdict x ≡ 0 → Cal
 append-keeps {x} {cs = cs} o q = record { left = calls-run q; demand = demand3 x cs o }
 
 -- a reader that was opened before them answers after them as the calls did then; of two moments of the run gsd_stores says the same
-pub append-snapshot : {x z : List ℕ} {cs : List Call} → verdict x ≡ 0 → Calls x cs z → (r : Reader) → reading x ≡ Reading.Ready r → Reads r z x
+pub append-snapshot : {x z : List ℕ} {cs : List Call} → verdict x ≡ 0 → Calls x cs z → (r : Reader) → reading x ≡ Ok r → Reads r z x
 append-snapshot {x} {cs = cs} o q r h = rw (calls-run q) (snapshot x cs o (from_start (end-moment x cs)) r h)
 
 -- A moment of the run, in terms of calls: what the append with a smaller limit would have left, so also what a beginning has left with
@@ -64,19 +63,19 @@ append-snapshot {x} {cs = cs} o q r h = rw (calls-run q) (snapshot x cs o (from_
 abbrev pub stopped_at : Call → ℕ → Call
 stopped_at c k = record { sheet = c.sheet; bytes = c.bytes; limit = k }
 
-left_at : (x y : List ℕ) (c : Call) (r : Appended) (k : ℕ) → Made x (stopped_at c k) r y → after_stores x c k ≡ y
+left_at : (x y : List ℕ) (c : Call) (r : Answer) (k : ℕ) → Made x (stopped_at c k) r y → after_stores x c k ≡ y
 left_at x y c r k p = stopped x c.sheet k ∙ sym (made-leaves p)
 
-pub append-moment : {x y : List ℕ} {c : Call} {cs : List Call} (k : ℕ) → k ≤ stores_made x c → (r : Appended) → Made x (stopped_at c k) r y →
+pub append-moment : {x y : List ℕ} {c : Call} {cs : List Call} (k : ℕ) → k ≤ stores_made x c → (r : Answer) → Made x (stopped_at c k) r y →
     Moment x (c ∷ cs) y
 append-moment {x} {y} {c} {cs} k h r p = subst (Moment x (c ∷ cs)) (left_at x y c r k p) (during k h)
 
-pub append-follows : {x y z : List ℕ} {c : Call} {cs : List Call} (k l : ℕ) → k ≤ l → l ≤ stores_made x c → (r s : Appended) →
+pub append-follows : {x y z : List ℕ} {c : Call} {cs : List Call} (k l : ℕ) → k ≤ l → l ≤ stores_made x c → (r s : Answer) →
     Made x (stopped_at c k) r y → Made x (stopped_at c l) s z → Follows x (c ∷ cs) y z
 append-follows {x} {y} {z} {c} k l h g r s p q = rw (← left_at x y c r k p, ← left_at x z c s l q) (in_call k l h g)
 
 -- The last store was made exactly when the answer says so
-module _ (x y : List ℕ) (c : Call) (r : Appended) (p : Made x c r y) where
+module _ (x y : List ℕ) (c : Call) (r : Answer) (p : Made x c r y) where
   pub answer-whole : r.done ≡ r.whole → length (stores_for x c.sheet) ≤ c.limit
   unfolding append_answer
   answer-whole d = omega (arith, ap (λ a. a.done) (made-answers p), ap (λ a. a.whole) (made-answers p))

@@ -1,5 +1,6 @@
 -- Turns of an append: what a turn does with a state that the append gave, whatever it meets, and what turns do that nothing comes
 -- between, each with the image, the sheet and the state that the one before left.
+use Rattle.std.specs.Prelude.{IsErrAnd, Result, Ok, Err, IfOk}
 use Prim.Native.Nat.{ℕ, ◌+◌, ◌-◌, ◌≤◌, min}
 use mathlib.Core.Path.{◌≡◌, refl, sym, ◌∙◌, ap}
 use mathlib.Core.Bool.{Bool, true, false, ◌&&◌}
@@ -7,9 +8,12 @@ use mathlib.Core.List.{List, [], ◌∷◌}
 use native.Mathlib.Nat.{add-zero}
 use native.Mathlib.Omega.{arith}
 use lib.ListN.{length, get_or, take, drop, length-drop}
+use Rattle.gsd_format.specs.declared.refusal.Refusal.{Refusal}
+use Rattle.gsd_format.specs.Answers.{refused, refusal_number}
+use Rattle.gsd_format.proofs.Refusals.{refusal-some}
 use Rattle.gsd_format.proofs.Lists.{Each, map-take, map-drop}
 use Rattle.gsd_stores.specs.Stores.{Store, after}
-use Rattle.gsd_stores.specs.Append.{stores_for}
+use Rattle.gsd_stores.specs.Append.{append_test, stores_for, append_answer}
 use Rattle.gsd_stores.proofs.Stores.{Misses, Off, after-off, after-length}
 use Rattle.gsd_sheet.specs.Columns.{plan_words}
 use Rattle.gsd_extents.specs.Exec.{tasks, exec, stores_of}
@@ -25,8 +29,8 @@ use Rattle.gsd_states.specs.States.{state_of, plan_in, length_in, sheet_in, done
 use Rattle.gsd_states.proofs.States.{plan-of, length-of, done-of, left-of, goes_of, expects-own, fits-goes, expects-lengths}
 use Rattle.gsd_append.specs.declared.state.State.{State}
 use Rattle.gsd_append.specs.declared.state.Begun.{Begun}
-use Rattle.gsd_append.specs.Turns.{refused_state, Begins, turn_made, turn_image, moved_on, turn_answer}
-use Rattle.gsd_states.proofs.Appends.{Carried, carried, some-rows, header-inside, append-ready, plan-stores, plan-whole, next-tasks}
+use Rattle.gsd_append.specs.Turns.{refused_state, Begins, Beginning, beginning, turn_made, turn_image, moved_on, turn_answer}
+use Rattle.gsd_states.proofs.Appends.{refused-append, Carried, carried, some-rows, header-inside, append-ready, plan-stores, plan-whole, next-tasks}
 
 -- Any turn, by whether it fits
 
@@ -56,6 +60,14 @@ module _ (s : State) (x sheet : List ℕ) (limit : ℕ) where
       go true h = ap (λ t. t.made) (turn-goes h)
       go false h = ap (λ t. t.made) (turn-refused h).0 ∙ sym (turn-none h)
 
+  -- and one that answers a number leaves the state
+  pub refused-stays : ((turn_answer s x sheet limit).number ≡ 0 → ⊥) → (turn_answer s x sheet limit).state ≡ s
+  refused-stays f = go (fits s.words x sheet) refl
+    where
+      go : (b : Bool) → fits s.words x sheet ≡ b → (turn_answer s x sheet limit).state ≡ s
+      go true h = absurd (f (ap (λ t. t.number) (turn-goes h)))
+      go false h = ap (λ t. t.state) (turn-refused h).0
+
   -- so carrying it on is the turn
   pub turn-carried : (made : ℕ) (y w : List ℕ) → fits s.words x sheet ≡ true → made ≡ min limit (length (left s.words sheet))
       → y ≡ exec sheet x (take made (left s.words sheet)) → w ≡ state_of (plan_in s.words) y sheet (done_in s.words + made)
@@ -69,19 +81,25 @@ module _ (s : State) (x sheet : List ℕ) (limit : ℕ) where
 
 -- A beginning, by what it tells of the words that it fills
 
-pub refused-begun : (x sheet s : List ℕ) (b : Counts) (w : State) → Counted x sheet b s → (b.number ≡ 0 → ⊥) → w ≡ refused_state
-    → Begins x sheet (record { number = b.number; whole = b.whole; copied = b.copied; state = w })
-refused-begun x sheet s b w h f e = record { number = h.number; whole = h.whole; copied = h.copied; refused = λ _. e; accepted = λ z. absurd (f z) }
-
-pub accepted-begun : (x sheet s : List ℕ) (b : Counts) → Counted x sheet b s → b.number ≡ 0
+pub accepted-begun : {x sheet s : List ℕ} {b : Counts} → append_test x sheet ≡ 0 → Counted x sheet b s
     → Begins x sheet (record { number = 0; whole = b.whole; copied = b.copied; state = record { words = s } })
-accepted-begun x sheet s b h z = record {
-  number = sym z ∙ h.number;
-  whole = h.whole;
-  copied = h.copied;
-  refused = λ f. absurd (f refl);
-  accepted = λ _. h.state z;
-}
+accepted-begun e h = record { number = sym e; whole = h.whole; copied = h.copied; refused = λ f. absurd (f refl); accepted = λ _. h.state }
+
+pub refused-begun : {x sheet : List ℕ} (r : Result Begun Refusal) (why : Refusal) → refusal_number why ≡ append_test x sheet
+    → IsErrAnd r (λ e. e ≡ why) → Begins x sheet (beginning r)
+unfolding append_answer
+refused-begun (Ok b) why e k = absurd k
+refused-begun {x} {sheet} (Err r) why e k =
+    let number : refusal_number r ≡ append_test x sheet = ap refusal_number k ∙ e in
+    let some : refusal_number r ≡ 0 → ⊥ = λ z. omega (arith, refusal-some r, z) in
+    let none = (refused-append x sheet 0 (refusal_number r) number some).0 in
+    record {
+      number = number;
+      whole = ap (λ a. a.whole) none;
+      copied = ap (λ a. a.copied) none;
+      refused = λ _. refl;
+      accepted = λ z. absurd (some z);
+    }
 
 -- A refused beginning's state is refused by every turn
 pub refused-turn : (x sheet : List ℕ) (limit : ℕ)
@@ -237,7 +255,7 @@ pub record Reached (x sheet s : List ℕ) (k : ℕ) (y : List ℕ) : Type 0 wher
   pub few : k ≤ length (stores_for x sheet)
 
 -- as after an accepted beginning
-pub begins-reached : {x sheet : List ℕ} {b : Begun} → Begins x sheet b → b.number ≡ 0 → Reached x sheet b.state.words 0 x
+pub begins-reached : {x sheet : List ℕ} {b : Beginning} → Begins x sheet b → b.number ≡ 0 → Reached x sheet b.state.words 0 x
 unfolding after
 begins-reached h z =
     let began = h.accepted z in

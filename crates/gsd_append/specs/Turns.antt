@@ -1,18 +1,31 @@
 -- An append in turns: what a beginning answers, and what a turn answers and leaves, for any state, image, sheet and limit.
-use Rattle.std.specs.Prelude.{ℕ, ◌+◌, min, ◌≡◌, true, false, List, length, take}
+use Rattle.std.specs.Prelude.{ℕ, ◌+◌, min, ◌≡◌, true, false, List, length, take, Result, Ok, Err}
+use Rattle.gsd_format.specs.declared.refusal.Refusal.{Refusal}
+use Rattle.gsd_format.specs.Answers.{refusal_number}
 use Rattle.gsd_format.specs.Bytes.{zeros}
 use Rattle.gsd_stores.specs.Append.{append_test, stores_for, copied_entries}
 use Rattle.gsd_extents.specs.Exec.{exec}
 use Rattle.gsd_states.specs.States.{state_words, plan_in, done_in, state_of, fits, left, Began}
 use Rattle.gsd_append.specs.declared.state.State.{State}
 use Rattle.gsd_append.specs.declared.state.Begun.{Begun}
-use Rattle.gsd_append.specs.declared.state.Turned.{Turned}
 
 unfoldable pub refused_state : State
 refused_state = record { words = zeros state_words }
 
--- A beginning answers the append's number, and how many stores and copied entries the whole append has, 0 where it is refused
-pub record Begins (x sheet : List ℕ) (b : Begun) : Type 0 where
+-- what a beginning answers: its number, how many stores and copied entries the whole append has, and the state for its turns
+pub record Beginning : Type 0 where
+  pub number : ℕ
+  pub whole : ℕ
+  pub copied : ℕ
+  pub state : State
+
+-- what the code answers: a refused beginning counts nothing, and its state is the refused one
+abbrev pub beginning : Result Begun Refusal → Beginning
+beginning (Ok b) = record { number = 0; whole = b.whole; copied = b.copied; state = b.state }
+beginning (Err r) = record { number = refusal_number r; whole = 0; copied = 0; state = refused_state }
+
+-- It is the append's number, and the counts are the whole append's, 0 where it is refused
+pub record Begins (x sheet : List ℕ) (b : Beginning) : Type 0 where
   pub number : b.number ≡ append_test x sheet
   pub whole : b.whole ≡ length (stores_for x sheet)
   pub copied : b.copied ≡ copied_entries x sheet
@@ -31,6 +44,17 @@ abbrev pub moved_on : State → List ℕ → List ℕ → ℕ → State
 moved_on s x sheet limit = record {
   words = state_of (plan_in s.words) (turn_image s x sheet limit) sheet (done_in s.words + turn_made s x sheet limit);
 }
+
+-- what a turn answers: its number, 0 or 32, how many stores it made, and the state for the next
+pub record Turned : Type 0 where
+  pub number : ℕ
+  pub made : ℕ
+  pub state : State
+
+-- what the code answers, with the state afterwards
+abbrev pub turned : Result ℕ Refusal → State → Turned
+turned (Ok made) s = record { number = 0; made = made; state = s }
+turned (Err r) s = record { number = refusal_number r; made = 0; state = s }
 
 unfoldable pub turn_answer : State → List ℕ → List ℕ → ℕ → Turned
 turn_answer s x sheet limit =

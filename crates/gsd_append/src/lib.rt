@@ -4,37 +4,29 @@
 mod state;
 
 ghost use Rattle.std.specs.Prelude.{◌≡◌};
-ghost use Rattle.gsd_stores.specs.Append.{append_answer, appended};
+ghost use Rattle.gsd_stores.specs.Append.{append_answer, answered, appended};
 
+use gsd_format::Refusal;
 use gsd_states::{STATE_WORDS, begin, carry_on};
 use gsd_stores::Appended;
-pub use state::{Begun, State, Turned};
+pub use state::{Begun, State, Turn};
 
-// Appends the sheet's rows as one frame, making at most `limit` stores: the answer's number is 0 or says why nothing is
-// changed; `done` of the `whole` append's stores are made, which copies `copied` listed entries where it moves the index.
+// Appends the sheet's rows as one frame, making at most `limit` stores: a refusal says why nothing is changed;
+// `done` of the `whole` append's stores are made, which copies `copied` listed entries where it moves the index.
 // It is a beginning and one turn joined: proofs/Turns.antt. That calls, joined or in turns, one after the other and stopped
 // anywhere, keep all that was found and add a frame exactly with its last store is proved in proofs/Demand3.antt; what the
 // copies add up to, in proofs/Moving.antt.
-pub fn append(image: &mut [u8], sheet: &[u8], limit: u64) -> Appended
-    ensures answer { result ≡ append_answer image.old sheet.now limit }
+pub fn append(image: &mut [u8], sheet: &[u8], limit: u64) -> Result<Appended, Refusal>
+    ensures answer { answered result ≡ append_answer image.old sheet.now limit }
     ensures image { image.new ≡ appended image.old sheet.now limit }
 {
     // The state lives here and is lent: nothing copies it, and what a beginning just gave needs no test.
     let mut words = [0u64; STATE_WORDS];
-    let counts = begin(&mut words, image, sheet);
-    if counts.number != 0 {
-        return Appended {
-            number: counts.number,
-            done: 0,
-            whole: 0,
-            copied: 0,
-        };
-    }
+    let counts = begin(&mut words, image, sheet)?;
     let done = carry_on(&mut words, image, sheet, limit);
-    Appended {
-        number: 0,
+    Ok(Appended {
         done,
         whole: counts.whole,
         copied: counts.copied,
-    }
+    })
 }

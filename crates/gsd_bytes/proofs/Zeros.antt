@@ -1,18 +1,9 @@
--- Laws of the search for a zero byte: whether there is one, by the place that is found, and how the parts of a search join.
-use Rattle.std.proofs.Common.{◌≡◌, ℕ, ◌+◌, ◌-◌, ◌<◌, ◌≤◌, Bool, true, false, ◌||◌, eqb, ltb, List, get_or, sym, refl, ap, ◌∙◌, arith, below_more, le-ltb, lt-ltb, eq-eqb, ne_eqb}
+-- Laws of the search for a zero byte: whether a block has one, and how the parts of a search join.
+use Rattle.std.proofs.Common.{◌≡◌, ℕ, ◌+◌, ◌-◌, ◌<◌, ◌≤◌, Bool, true, false, ◌||◌, eqb, List, get_or, sym, refl, ap, subst, ◌*◌, ◌∙◌, arith, below_more, eq-eqb, ne_eqb}
 use native.Mathlib.Decide.{dec_lt, ℕ_discrete}
 use Rattle.gsd_format.specs.Bytes.{zero_in}
 use Rattle.gsd_format.proofs.Bytes.{zero-found, no_zero, zero_in_lem, zero-out}
 use Rattle.gsd_bytes.specs.Zeros.{FirstZero, Clear}
-
-pub zero-told : (s : List ℕ) (from to r : ℕ) → FirstZero s from to r → ltb r to ≡ zero_in s from (to - from)
-zero-told s from to r z = go (dec_lt r to)
-  where
-    go : Dec (r < to) → ltb r to ≡ zero_in s from (to - from)
-    go (yes l) =
-        let place : from + (r - from) ≡ r = omega arith in
-        lt-ltb r to l ∙ sym (zero_in_lem s from (to - from) (r - from) (omega arith) (ap (λ i. get_or s i 0) place ∙ z.here l))
-    go (no l) = le-ltb r to (omega arith) ∙ sym (zero-out s from (to - from) (λ k m. z.before (from + k) (omega arith) (omega arith)))
 
 pub zero_more : (s : List ℕ) (i n : ℕ) (t : Bool) → t ≡ zero_in s i n → (t || eqb (get_or s (i + n) 0) 0) ≡ zero_in s i (n + 1)
 zero_more s i n t f = ap (λ b. b || eqb (get_or s (i + n) 0) 0) f ∙ go (zero_in s i n) refl (ℕ_discrete (get_or s (i + n) 0) 0)
@@ -26,11 +17,8 @@ zero_more s i n t f = ap (λ b. b || eqb (get_or s (i + n) 0) 0) f ∙ go (zero_
         ap (λ b. b || eqb (get_or s (i + n) 0) 0) e ∙ ne_eqb _ _ z
         ∙ sym (zero-out s i (n + 1) (below_more (λ k. get_or s (i + k) 0 ≡ 0 → ⊥) n (no_zero s i n e) z))
 
-pub clear_none : (s : List ℕ) (from to : ℕ) → from ≤ to → Clear s from to from
-clear_none s from to l = record { above = omega arith; within = l; before = λ k m n. absurd (omega arith) }
-
 -- a block without a zero is passed
-pub clear-more : (s : List ℕ) (from to i n : ℕ) → Clear s from to i → i + n ≤ to → zero_in s i n ≡ false → Clear s from to (i + n)
+clear-more : (s : List ℕ) (from to i n : ℕ) → Clear s from to i → i + n ≤ to → zero_in s i n ≡ false → Clear s from to (i + n)
 clear-more s from to i n c l e = record { above = omega (arith, c.above); within = l; before = λ k m n. go k m n (dec_lt k i) }
   where
     go : (k : ℕ) → from ≤ k → k < i + n → Dec (k < i) → get_or s k 0 ≡ 0 → ⊥
@@ -38,6 +26,13 @@ clear-more s from to i n c l e = record { above = omega (arith, c.above); within
     go k m h (no b) z =
         let place : i + (k - i) ≡ k = omega arith in
         no_zero s i n e (k - i) (omega arith) (ap (λ j. get_or s j 0) place ∙ z)
+
+-- the next block of a stretch
+pub block-more : (s : List ℕ) (from to k : ℕ) {t : Bool} → Clear s from to (from + 32 * k) → from + 32 * (k + 1) ≤ to
+    → t ≡ zero_in s (from + 32 * k) 32 → t ≡ false → Clear s from to (from + 32 * (k + 1))
+block-more s from to k c l e f =
+    let place : from + 32 * k + 32 ≡ from + 32 * (k + 1) = omega arith in
+    subst (Clear s from to) place (clear-more s from to (from + 32 * k) 32 c (omega arith) (sym e ∙ f))
 
 -- a zero that is found in the front of a stretch is the stretch's first
 pub first-near : (s : List ℕ) (from near to r : ℕ) → near ≤ to → FirstZero s from near r → r < near → FirstZero s from to r

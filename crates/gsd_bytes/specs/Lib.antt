@@ -1,2 +1,3 @@
--- What a search for a zero byte answers.
+-- What a search for a zero byte answers, and the sizes of floats.
 pub mod Zeros
+pub mod Patterns

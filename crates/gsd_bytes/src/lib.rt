@@ -9,28 +9,29 @@ ghost use Rattle.gsd_format.specs.Types.{size_of, last_type, known};
 mod floats;
 mod scan;
 
-pub use floats::{any_nan32, any_nan64, nan32, nan64};
+pub use floats::{Pattern, any_nan};
 pub use scan::{first_zero, has_zero};
 
-// Numbers. The sums and quotients below compile to one load and one store.
+// Numbers. What is read compiles to one load, and what is stored to one store.
 
 pub const TWO_TO_32: u64 = 4294967296;
 
-// A byte as a number of 64 bits.
-pub fn wide(x: u8) -> u64
-    ensures answer { result ≡ x }
-    ensures bound { result < 256 }
+// The N bytes from `at` on.
+fn array_at<const N: usize>(s: &[u8], at: usize) -> [u8; N]
+    requires { at + N ≤ length s.now }
+    ensures { result ≡ part s.now at N }
 {
-    x as u64
+    <[u8; N]>::try_from(&s[at..at + N]).unwrap()
 }
 
-// The number of the two bytes from `at` on.
+// The number of the two bytes from `at` on. Here and below a name for each width: std has no trait of `from_le_bytes`, and
+// `number_at::<8>(s, at)` would say no more than `u64_at(s, at)`.
 pub fn u16_at(s: &[u8], at: usize) -> u64
     requires { at + 2 ≤ length s.now }
     ensures answer { result ≡ le 2 s.now at }
     ensures bound { result < 65536 }
 {
-    wide(s[at]) + 256 * wide(s[at + 1])
+    u64::from(u16::from_le_bytes(array_at(s, at)))
 }
 
 // The number of the four bytes from `at` on.
@@ -39,7 +40,7 @@ pub fn u32_at(s: &[u8], at: usize) -> u64
     ensures answer { result ≡ le 4 s.now at }
     ensures bound { result < 4294967296 }
 {
-    u16_at(s, at) + 65536 * u16_at(s, at + 2)
+    u64::from(u32::from_le_bytes(array_at(s, at)))
 }
 
 // The number of the eight bytes from `at` on.
@@ -47,18 +48,15 @@ pub fn u64_at(s: &[u8], at: usize) -> u64
     requires { at + 8 ≤ length s.now }
     ensures { result ≡ le 8 s.now at }
 {
-    u32_at(s, at) + TWO_TO_32 * u32_at(s, at + 4)
+    u64::from_le_bytes(array_at(s, at))
 }
 
-// The four low bytes of w go into s from `at` on.
+// The four low bytes of w go into s from `at` on. As for reading, a name for each width.
 pub fn put_half(s: &mut [u8], at: usize, w: u64)
     requires { at + 4 ≤ length s.old }
     ensures { s.new ≡ stored s.old at (le_bytes 4 w) }
 {
-    s[at] = (w % 256) as u8;
-    s[at + 1] = (w / 256 % 256) as u8;
-    s[at + 2] = (w / 256 / 256 % 256) as u8;
-    s[at + 3] = (w / 256 / 256 / 256 % 256) as u8;
+    put_text(s, at, &w.to_le_bytes()[0..4]);
 }
 
 // The eight bytes of w go into s from `at` on.
@@ -66,41 +64,10 @@ pub fn put_word(s: &mut [u8], at: usize, w: u64)
     requires { at + 8 ≤ length s.old }
     ensures { s.new ≡ stored s.old at (le_bytes 8 w) }
 {
-    put_half(s, at, w);
-    put_half(s, at + 4, w / TWO_TO_32);
+    put_text(s, at, &w.to_le_bytes());
 }
 
-// Parts. The bytes of two parts are compared eight at a time, what is left over one by one.
-
-fn same_words(a: &[u8], ai: usize, b: &[u8], bi: usize, n: usize) -> bool
-    requires first { ai + 8 * n ≤ length a.now }
-    requires second { bi + 8 * n ≤ length b.now }
-    ensures { result ≡ same (part a.now ai (8 * n)) (part b.now bi (8 * n)) }
-{
-    let mut i = 0;
-    while i < n {
-        if u64_at(a, ai + 8 * i) != u64_at(b, bi + 8 * i) {
-            return false;
-        }
-        i += 1;
-    }
-    true
-}
-
-fn same_bytes(a: &[u8], ai: usize, b: &[u8], bi: usize, n: usize) -> bool
-    requires first { ai + n ≤ length a.now }
-    requires second { bi + n ≤ length b.now }
-    ensures { result ≡ same (part a.now ai n) (part b.now bi n) }
-{
-    let mut i = 0;
-    while i < n {
-        if a[ai + i] != b[bi + i] {
-            return false;
-        }
-        i += 1;
-    }
-    true
-}
+// Parts.
 
 // Are the n bytes of a from ai those of b from bi?
 pub fn same_part(a: &[u8], ai: usize, b: &[u8], bi: usize, n: usize) -> bool
@@ -108,11 +75,7 @@ pub fn same_part(a: &[u8], ai: usize, b: &[u8], bi: usize, n: usize) -> bool
     requires second { bi + n ≤ length b.now }
     ensures { result ≡ same (part a.now ai n) (part b.now bi n) }
 {
-    let words = n / 8;
-    if !same_words(a, ai, b, bi, words) {
-        return false;
-    }
-    same_bytes(a, ai + 8 * words, b, bi + 8 * words, n % 8)
+    &a[ai..ai + n] == &b[bi..bi + n]
 }
 
 // Zeros from `from` up to `to`.
@@ -121,52 +84,32 @@ pub fn fill_zero(s: &mut [u8], from: usize, to: usize)
     requires inside { to ≤ length s.old }
     ensures { s.new ≡ stored s.old from (zeros (to - from)) }
 {
-    let mut i = from;
-    while i < to {
-        s[i] = 0;
-        i += 1;
-    }
+    s[from..to].fill(0);
 }
 
-// The bytes of t go into s from `at` on.
+// The bytes of t go into s from `at` on. By hand: with `copy_from_slice` the archive asks for `memmove`, and the C interface says that
+// it takes memcpy and memset alone (tests/archive).
 pub fn put_text(s: &mut [u8], at: usize, t: &[u8])
     requires { at + length t.now ≤ length s.old }
     ensures { s.new ≡ stored s.old at t.now }
 {
-    let mut i = 0;
-    while i < t.len() {
+    for i in 0..t.len() {
         s[at + i] = t[i];
-        i += 1;
     }
 }
 
-// How many of n bytes lie before the next multiple of 16.
-fn before_sixteen(at: usize, n: usize) -> usize
-    ensures { result ≤ n }
-{
-    let near = (16 - at % 16) % 16;
-    if n < near {
-        return n;
-    }
-    near
-}
-
-// The n bytes of t from `from` on go into s from `at` on. Those before the next multiple of 16 go by themselves: the compiler
-// stores sixteen bytes at once, and where s lies as memory is handed out, none of these stores then crosses a line of the cache.
+// The n bytes of t from `from` on go into s from `at` on.
 pub fn copy_part(s: &mut [u8], at: usize, t: &[u8], from: usize, n: usize)
     requires there { from + n ≤ length t.now }
     requires inside { at + n ≤ length s.old }
     ensures { s.new ≡ stored s.old at (part t.now from n) }
 {
-    let near = before_sixteen(at, n);
-    let next = from + near;
-    let end = from + n;
-    put_text(s, at, &t[from..next]);
-    put_text(s, at + near, &t[next..end]);
+    put_text(s, at, &t[from..from + n]);
 }
 
 // The format's numbers: the bytes of the header, of a slot of the index and of a segment of the name list; the most names, the
-// greatest number of a frame, and the bytes of the longest image; GSD 1.0, 2.0 and 2.1.
+// greatest number of a frame, and the bytes of the longest image; GSD 1.0, 2.0 and 2.1. Versions are no enum: an image's is any number,
+// to the definition layout_of, and so is a reader's, whose words C lends.
 pub const HEADER_SIZE: u64 = 256;
 
 pub const SLOT_SIZE: u64 = 32;
@@ -193,7 +136,7 @@ pub fn rounded(n: u64) -> u64
     requires { n < 18446744073709551552 }
     ensures { result ≡ aligned n }
 {
-    (n + (ALIGNMENT - 1)) / ALIGNMENT * ALIGNMENT
+    n.div_ceil(ALIGNMENT) * ALIGNMENT
 }
 
 // Is it 1.0, where a name has a segment of its own and entries stand in the order of writing?
@@ -233,7 +176,7 @@ pub fn has_magic(s: &[u8]) -> bool
     requires { 8 ≤ length s.now }
     ensures { result ≡ same (take 8 s.now) magic }
 {
-    same_part(s, 0, &MAGIC, 0, MAGIC_SIZE)
+    array_at(s, 0) == MAGIC
 }
 
 // The magic goes into the first eight bytes of s.
@@ -244,7 +187,7 @@ pub fn put_magic(s: &mut [u8])
     put_text(s, 0, &MAGIC);
 }
 
-// The types of elements, as gsd.h numbers them.
+// The types of elements, as gsd.h numbers them. They are no enum: an entry's kind is any byte, to C and to the definitions.
 pub const UINT8: u8 = 1;
 
 pub const UINT16: u8 = 2;
@@ -267,7 +210,7 @@ pub const DOUBLE: u8 = 10;
 
 pub const CHARACTER: u8 = 11;
 
-// The bytes of one element of a type, 0 where no version has it.
+// The bytes of one element of a type, 0 where no version has it: so the definition size_of has it, and so chunk_size of any entry.
 pub fn size_of(kind: u8) -> u64
     ensures answer { result ≡ size_of kind }
     ensures bound { result ≤ 8 }
@@ -295,8 +238,5 @@ fn last_type(version: u64) -> u8
 pub fn known(version: u64, kind: u8) -> bool
     ensures { result ≡ known version kind }
 {
-    if kind == 0 {
-        return false;
-    }
-    kind <= last_type(version)
+    0 < kind && kind <= last_type(version)
 }

@@ -1,30 +1,29 @@
 // What a table asks of an image by the calls that read: each takes its numbers and its name from the line's last ones, and
-// puts its values into the array that is as long as they are many.
+// tells its values where it answers 0, but probes, which tells how many it made whatever it answers.
 use dialmoth::{
     dialmoth_chunk, dialmoth_element, dialmoth_entry, dialmoth_lookup, dialmoth_name,
     dialmoth_open, dialmoth_probes,
 };
-use gsd_lines::{Numbers, part, words};
+use gsd_lines::Line;
+use gsd_lines::words::Ask;
+use gsd_tables::text::Text;
 
-// The number of a call that reads.
-pub fn ask(
-    k: usize,
-    n: Numbers,
-    table: &[u8],
-    image: &[u8],
-    one: &mut [u64; 1],
-    two: &mut [u64; 2],
-    three: &mut [u64; 3],
-    seven: &mut [u64; 7],
-) -> u64 {
-    match k {
-        words::OPEN => dialmoth_open(image, three),
-        words::NAME => dialmoth_name(image, n.e, two),
-        words::CHUNK => dialmoth_chunk(image, n.d, part(table, n.e), two),
-        words::ELEMENT => dialmoth_element(image, n.c, part(table, n.d), n.e, two),
-        words::ENTRY => dialmoth_entry(image, n.e, seven),
-        words::LOOKUP => dialmoth_lookup(image, n.d, part(table, n.e), seven),
-        words::PROBES => dialmoth_probes(image, n.d, part(table, n.e), one),
-        _ => 0,
+// The answer of a call that reads. More than a search ever probes: a count that is not set shows. The table goes with the line, here and
+// in the other calls: a line has the places of its texts alone, since the table is written when it is read.
+pub fn ask(word: Ask, line: Line, table: &[u8], image: &[u8], text: &mut Text) {
+    let [_, before, n] = line.numbers;
+    let name = line.texts[1].of(table);
+    let mut one = [99u64; 1];
+    let mut two = [1u64; 2];
+    let mut three = [1u64; 3];
+    let mut seven = [0u64; 7];
+    match word {
+        Ask::Open => text.say_good(dialmoth_open(image, &mut three), &three),
+        Ask::Name => text.say_good(dialmoth_name(image, n, &mut two), &two),
+        Ask::Chunk => text.say_good(dialmoth_chunk(image, n, name, &mut two), &two),
+        Ask::Element => text.say_good(dialmoth_element(image, before, name, n, &mut two), &two),
+        Ask::Entry => text.say_good(dialmoth_entry(image, n, &mut seven), &seven),
+        Ask::Lookup => text.say_good(dialmoth_lookup(image, n, name, &mut seven), &seven),
+        Ask::Probes => text.say_all(dialmoth_probes(image, n, name, &mut one), &one),
     }
 }

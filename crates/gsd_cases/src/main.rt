@@ -11,8 +11,7 @@ mod run;
 mod turns;
 
 use gsd_input::read_file;
-use gsd_tables::tally;
-use gsd_tables::tally::State;
+use gsd_tables::tally::Tally;
 use std::env::FillError;
 use std::io;
 use std::rt::{Env, Files};
@@ -20,43 +19,54 @@ use std::rt::{Env, Files};
 // The greatest table.
 const MOST: usize = 65535;
 
-fn run_file(rt: &(impl Files + Print + Eprint), path: &str) -> io::Result<State> {
+// A table's counts go to those of all.
+fn run_file(rt: &(impl Files + Print + Eprint), path: &str, all: &mut Tally) -> io::Result<()> {
     let mut table = [0u8; 65536];
     match read_file(rt, path, &mut table) {
-        Ok(n) => {
-            if MOST < n {
-                return tally::too_long(rt, path.as_bytes());
-            }
-            run::run(rt, &mut table, n, path.as_bytes())
+        Ok(n) if n <= MOST => all.add(run::run(rt, &mut table, n, path)?),
+        Ok(_) => {
+            println!(rt; "too long: {path}")?;
+            all.lose();
         }
         Err(e) => {
             eprintln!(rt; "{path}: {e}")?;
-            Ok(tally::lost())
+            all.lose();
         }
     }
+    Ok(())
 }
 
-// The counts of the table that argument i names, if there is such an argument. To std a path is UTF-8 text.
-fn run_argument(rt: &(impl Env + Files + Print + Eprint), i: usize) -> io::Result<Option<State>> {
+// Runs the table that argument i names; false where there is no such argument. To std a path is UTF-8 text. gsd_files has the same but for
+// the counts: one for both would be handed a closure for each of its three ends.
+fn run_argument(
+    rt: &(impl Env + Files + Print + Eprint),
+    i: usize,
+    all: &mut Tally,
+) -> io::Result<bool> {
     let mut path = [0u8; 4096];
     match rt.arg(i, &mut path) {
         Ok(length) => match str::from_utf8(&path[..length]) {
-            Ok(path) => return Ok(Some(run_file(rt, path)?)),
-            Err(e) => eprintln!(rt; "argument {i}: {e}")?,
+            Ok(path) => run_file(rt, path, all)?,
+            Err(e) => {
+                eprintln!(rt; "argument {i}: {e}")?;
+                all.lose();
+            }
         },
-        Err(FillError::TooLong) => eprintln!(rt; "argument {i}: too long")?,
-        Err(FillError::NotPresent) => return Ok(None),
+        Err(FillError::TooLong) => {
+            eprintln!(rt; "argument {i}: too long")?;
+            all.lose();
+        }
+        Err(FillError::NotPresent) => return Ok(false),
     }
-    Ok(Some(tally::lost()))
+    Ok(true)
 }
 
 fn main(rt: HostRuntime) -> io::Result<()> {
-    let mut s = tally::start();
+    let mut all = Tally::new("in all");
     for i in 1..usize::MAX {
-        let Some(counts) = run_argument(&rt, i)? else {
+        if !run_argument(&rt, i, &mut all)? {
             break;
-        };
-        s = tally::plus(s, counts);
+        }
     }
-    tally::sums(&rt, b"in all", s)
+    all.print(&rt)
 }

@@ -9,7 +9,8 @@ use native.Mathlib.Decide.{ℕ_discrete}
 use native.Mathlib.Omega.{arith}
 use lib.Ieee.{Float, neg, is_nan}
 use Rattle.gsd_columns.specs.Columns.{less, more, kept, foremost, extreme, Foremost}
-use Rattle.gsd_columns.specs.Scans.{Extremes, Joined}
+use Rattle.gsd_columns.specs.Scans.{Extremes, Joined, Rows, RowsJoined}
+use Rattle.gsd_columns.specs.declared.scan.Three.{Three}
 use Rattle.gsd_columns.proofs.Order.{lt-weak, lt-asym, lt-neg, nan-neg}
 
 -- of two values at most one comes before the other, and what comes before one comes before all numbers that do not
@@ -157,3 +158,22 @@ extremes-four x a a' b b' c c' d d' e e' f f' r r' numbers p q s t g h k =
     extremes-join (λ j. x (2 + j)) (λ j. x (3 + j)) 1 1 _ _ _ _ _ _ (omega arith) (omega arith) (λ j l. numbers (2 + j) (omega arith))
     (λ j. ap x (omega arith)) s t h in
     extremes-join x (λ j. x (2 + j)) 2 2 _ _ _ _ _ _ (omega arith) (omega arith) numbers (λ j. refl) two later k
+
+-- Those of three columns, row by row
+
+pub rows-join : {F : Type 0} (value : F → Float) (columns : ℕ → ℕ → Float) (i k : ℕ) (t u t' : Three F) → 0 < i → 0 < k →
+    ((c j : ℕ) → c < 3 → j < i + k → is_nan (columns c j) ≡ false) → Rows value columns i t → Rows value (λ c j. columns c (i + j)) k u →
+    RowsJoined value t u t' → Rows value columns (i + k) t'
+rows-join value columns i k t u t' h l numbers e f g = record {
+  x = extremes-join (columns 0) (λ j. columns 0 (i + j)) i k _ _ _ _ _ _ h l (λ j. numbers 0 j (omega arith)) (λ j. refl) e.x f.x g.x;
+  y = extremes-join (columns 1) (λ j. columns 1 (i + j)) i k _ _ _ _ _ _ h l (λ j. numbers 1 j (omega arith)) (λ j. refl) e.y f.y g.y;
+  z = extremes-join (columns 2) (λ j. columns 2 (i + j)) i k _ _ _ _ _ _ h l (λ j. numbers 2 j (omega arith)) (λ j. refl) e.z f.z g.z;
+}
+
+pub rows-same : {F : Type 0} (value : F → Float) (columns columns' : ℕ → ℕ → Float) (i n : ℕ) (t : Three F) →
+    ((c j : ℕ) → columns c j ≡ columns' c j) → i ≡ n → Rows value columns i t → Rows value columns' n t
+rows-same value columns columns' i n t f e rows = record {
+  x = extremes-same _ _ _ _ _ _ (f 0) e rows.x;
+  y = extremes-same _ _ _ _ _ _ (f 1) e rows.y;
+  z = extremes-same _ _ _ _ _ _ (f 2) e rows.z;
+}

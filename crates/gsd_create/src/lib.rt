@@ -1,11 +1,14 @@
 // Creates a fresh image at the front of a lent slice: header, an empty index block, an empty name block.
 #![tactic(auto)]
 
-ghost use Rattle.std.specs.Prelude.{◌≡◌};
+ghost use Rattle.std.specs.Prelude.{◌≡◌, IfOk};
+ghost use Rattle.gsd_format.specs.Answers.{refused};
 ghost use Rattle.gsd_format.specs.Create.{or_default, bad_text, create_test, create_number, created};
+ghost use Rattle.gsd_create.specs.Asked.{Asked};
 
-use gsd_bytes::{GREATEST_LENGTH, SEGMENT_SIZE, has_zero};
-use gsd_fresh::{lay_out, namelist_place};
+use gsd_bytes::{GREATEST_LENGTH, has_zero};
+use gsd_format::Refusal;
+use gsd_fresh::Request;
 
 const DEFAULT_SLOTS: u64 = 512;
 
@@ -17,46 +20,54 @@ const MOST_UNITS: u64 = 65536;
 // Bytes of a text.
 const LONGEST_TEXT: usize = 63;
 
+// 0 stands for the usual count, as in the C interface: create_number and created say so.
 fn or_default(n: u64, usual: u64) -> u64
     ensures { result ≡ or_default n usual }
 {
-    if n == 0 {
-        return usual;
+    match n {
+        0 => usual,
+        _ => n,
     }
-    n
 }
 
 fn bad_text(t: &[u8]) -> bool
     ensures { result ≡ bad_text t.now }
 {
-    if LONGEST_TEXT < t.len() {
-        return true;
-    }
-    has_zero(t, 0, t.len())
+    LONGEST_TEXT < t.len() || has_zero(t, 0, t.len())
 }
 
-fn create_test(len: usize, application: &[u8], schema: &[u8], slots: u64, segments: u64) -> u64
-    ensures { result ≡ create_test len application.now schema.now slots segments }
+// The request, where a slice of len bytes takes it.
+fn request_of<'a>(
+    len: usize,
+    application: &'a [u8],
+    schema: &'a [u8],
+    schema_version: u32,
+    slots: u64,
+    segments: u64,
+) -> Result<Request<'a>, Refusal>
+    ensures number { refused result ≡ create_test len application.now schema.now slots segments }
+    ensures request { IfOk result (Asked application.now schema.now schema_version slots segments) }
 {
     if GREATEST_LENGTH < len {
-        return 2;
+        return Err(Refusal::LongImage);
     }
-    if MOST_UNITS < slots {
-        return 50;
+    if MOST_UNITS < slots || MOST_UNITS < segments {
+        return Err(Refusal::LargeBlock);
     }
-    if MOST_UNITS < segments {
-        return 50;
+    if bad_text(application) || bad_text(schema) {
+        return Err(Refusal::BadText);
     }
-    if bad_text(application) {
-        return 51;
+    let request = Request {
+        application,
+        schema,
+        schema_version,
+        slots,
+        segments,
+    };
+    if (len as u64) < request.namelist_end() {
+        return Err(Refusal::ShortForBlocks);
     }
-    if bad_text(schema) {
-        return 51;
-    }
-    if (len as u64) < namelist_place(slots) + SEGMENT_SIZE * segments {
-        return 52;
-    }
-    0
+    Ok(request)
 }
 
 // A refusal changes no byte. Bytes between the two blocks and behind them stay.
@@ -67,17 +78,14 @@ pub fn create(
     schema_version: u32,
     slots: u64,
     segments: u64,
-) -> u64
-    ensures number { result ≡ create_number image.old application.now schema.now slots segments }
+) -> Result<(), Refusal>
+    ensures number { refused result ≡ create_number image.old application.now schema.now slots segments }
     ensures image { image.new
         ≡ created image.old application.now schema.now schema_version slots segments }
 {
     let m = or_default(slots, DEFAULT_SLOTS);
     let k = or_default(segments, DEFAULT_SEGMENTS);
-    let number = create_test(image.len(), application, schema, m, k);
-    if number != 0 {
-        return number;
-    }
-    lay_out(image, application, schema, schema_version, m, k);
-    number
+    let request = request_of(image.len(), application, schema, schema_version, m, k)?;
+    request.lay_out(image);
+    Ok(())
 }

@@ -1,4 +1,5 @@
 -- Laws of the elements of a chunk: their bits by the size of their type, and their places.
+use Rattle.std.specs.Prelude.{Ok}
 use Prim.Native.Nat.{ℕ, ◌+◌, ◌*◌, ◌^◌, ◌≤◌, ◌<◌}
 use mathlib.Core.Path.{◌≡◌, sym, ◌∙◌, ap}
 use mathlib.Core.List.{List}
@@ -29,6 +30,6 @@ module _ (img : List ℕ) (e : Entry) (held : Held img e) where
   element-within k size h q = rw q (omega (arith, mul-le-mul_right (size_of e.kind) h, held.within))
 
   pub element-here : (k size bits : ℕ) → k < e.n * e.m → size ≡ size_of e.kind → bits ≡ le (size_of e.kind) img (e.location + k * size) →
-      element_of e.kind bits ≡ element_in img e k
+      Ok (element_of e.kind bits) ≡ element_in img e k
   element-here k size bits h q b =
-      ap (element_of e.kind) (b ∙ ap (λ s. le (size_of e.kind) img (e.location + k * s)) q) ∙ sym (element-at img e k h)
+      ap (λ v. Ok (element_of e.kind v)) (b ∙ ap (λ s. le (size_of e.kind) img (e.location + k * s)) q) ∙ sym (element-at img e k h)

@@ -1,4 +1,3 @@
 -- Laws that the proofs of elements share.
-pub mod Floats
 pub mod Signed
 pub mod Elements

@@ -3,13 +3,12 @@
 use Prim.Native.Nat.{ℕ, ◌+◌, ◌-◌, ◌≤◌}
 use mathlib.Core.Path.{◌≡◌, refl, sym, ◌∙◌}
 use mathlib.Core.Bool.{Bool, true, false, ◌&&◌}
-use native.Mathlib.Decide.{ℕ_discrete}
 use native.Mathlib.Omega.{arith}
-use lib.Dec.{leb, eqb}
-use borrow.Author.Tests.{leb-true, leb-false, le-leb, lt-leb, eqb-true, eq-eqb, ne_eqb}
+use lib.Dec.{leb}
+use borrow.Author.Tests.{leb-true, leb-false, le-leb, lt-leb, eqb-true, eq-eqb}
 use Rattle.gsd_format.proofs.Refusals.{both_true, both_of}
 use Rattle.gsd_extents.specs.declared.extent.Extent.{Extent}
-use Rattle.gsd_extents.specs.Extents.{copy_kind, data_kind, number_kind, name_kind}
+use Rattle.gsd_extents.specs.declared.extent.Kind.{Kind}
 use Rattle.gsd_extents.specs.Exec.{Good, source_keeps, keeps_to}
 
 -- a sum against its bound
@@ -23,40 +22,30 @@ leb-sum a b n h = go (leb a (n - b)) refl
 -- The test of what is read, kind by kind
 
 module _ (n m : ℕ) (x : Extent) where
-  pub keeps-copy : x.kind ≡ copy_kind → source_keeps n m x ≡ leb x.until n
+  pub keeps-copy : x.kind ≡ Kind.Copy → source_keeps n m x ≡ leb x.until n
   unfolding source_keeps
   keeps-copy e = rw (e, source_keeps)
 
-  pub keeps-data : x.kind ≡ data_kind → source_keeps n m x ≡ leb x.until m
+  pub keeps-data : x.kind ≡ Kind.Data → source_keeps n m x ≡ leb x.until m
   unfolding source_keeps
   keeps-data e = rw (e, source_keeps)
 
-  pub keeps-name : x.kind ≡ name_kind → source_keeps n m x ≡ (leb x.until m && leb (x.value + (x.until - x.from)) n)
+  pub keeps-name : x.kind ≡ Kind.Name → source_keeps n m x ≡ (leb x.until m && leb (x.value + (x.until - x.from)) n)
   unfolding source_keeps
   keeps-name e = rw (e, source_keeps)
 
-  pub keeps-other : (x.kind ≡ copy_kind → ⊥) → (x.kind ≡ data_kind → ⊥) → (x.kind ≡ name_kind → ⊥) → source_keeps n m x ≡ eqb x.kind number_kind
+  pub keeps-number : x.kind ≡ Kind.Number → source_keeps n m x ≡ true
   unfolding source_keeps
-  keeps-other a b c = rw (ne_eqb _ _ a, ne_eqb _ _ b, ne_eqb _ _ c, source_keeps)
-
-  -- an extent whose source keeps to them has a known kind
-  source_known : source_keeps n m x ≡ true → x.kind ≤ name_kind
-  source_known s = go (ℕ_discrete x.kind copy_kind) (ℕ_discrete x.kind data_kind) (ℕ_discrete x.kind name_kind)
-    where
-      go : Dec (x.kind ≡ copy_kind) → Dec (x.kind ≡ data_kind) → Dec (x.kind ≡ name_kind) → x.kind ≤ name_kind
-      go (yes e) b c = omega arith
-      go (no a) (yes e) c = omega arith
-      go (no a) (no b) (yes e) = omega arith
-      go (no a) (no b) (no c) = omega (arith, eqb-true x.kind number_kind (sym (keeps-other a b c) ∙ s))
+  keeps-number e = rw (e, source_keeps)
 
   good-source : Good n m x → source_keeps n m x ≡ true
-  good-source g = go (ℕ_discrete x.kind copy_kind) (ℕ_discrete x.kind data_kind) (ℕ_discrete x.kind name_kind)
+  good-source g = go x.kind refl
     where
-      go : Dec (x.kind ≡ copy_kind) → Dec (x.kind ≡ data_kind) → Dec (x.kind ≡ name_kind) → source_keeps n m x ≡ true
-      go (yes e) b c = keeps-copy e ∙ le-leb _ _ (g.image e)
-      go (no a) (yes e) c = keeps-data e ∙ le-leb _ _ (g.sheet e)
-      go (no a) (no b) (yes e) = keeps-name e ∙ both_of _ _ (le-leb _ _ (g.name e).0) (le-leb _ _ (g.name e).1)
-      go (no a) (no b) (no c) = keeps-other a b c ∙ eq-eqb x.kind number_kind (omega (arith, g.known))
+      go : (k : Kind) → x.kind ≡ k → source_keeps n m x ≡ true
+      go Kind.Copy e = keeps-copy e ∙ le-leb _ _ (g.image e)
+      go Kind.Data e = keeps-data e ∙ le-leb _ _ (g.sheet e)
+      go Kind.Number e = keeps-number e
+      go Kind.Name e = keeps-name e ∙ both_of _ _ (le-leb _ _ (g.name e).0) (le-leb _ _ (g.name e).1)
 
   -- The test tells whether an extent is good
 
@@ -67,7 +56,6 @@ module _ (n m : ℕ) (x : Extent) where
       let o = both_true _ _ s.0 in
       let r = both_true _ _ o.0 in
       record {
-        known = source_known s.1;
         aligned = eqb-true _ _ r.0;
         room = leb-true _ _ r.1;
         order = leb-true _ _ o.1;

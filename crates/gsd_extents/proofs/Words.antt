@@ -1,17 +1,15 @@
 -- Laws of an extent's words, kind by kind: where they go, where and in which text they are read.
 use Prim.Native.Nat.{ℕ, suc, ◌+◌, ◌*◌, ◌-◌, ◌^◌, ◌%◌, ◌≤◌, ◌<◌, max}
-use mathlib.Core.Path.{◌≡◌, ◌∙◌, ap}
+use mathlib.Core.Path.{◌≡◌, refl, ◌∙◌, ap}
 use mathlib.Core.List.{List}
 use native.Mathlib.Nat.{pow-suc, pow-le-pow_right}
-use native.Mathlib.Decide.{ℕ_discrete}
 use native.Mathlib.Omega.{arith}
 use lib.ListN.{length, get_or, take, length-take, get_or-eq_default}
 use lib.Seq.{get_or-take}
-use borrow.Author.Tests.{ne_eqb}
 use Rattle.gsd_format.specs.Bytes.{le, part}
 use Rattle.gsd_format.proofs.Bytes.{le_same, part_at, part_length, stored-below, stored-inside, stored-above}
 use Rattle.gsd_extents.specs.declared.extent.Extent.{Extent}
-use Rattle.gsd_extents.specs.Extents.{copy_kind, data_kind, number_kind, name_kind}
+use Rattle.gsd_extents.specs.declared.extent.Kind.{Kind}
 use Rattle.gsd_extents.specs.Exec.{place_of, over, text_of, source_of, word_of, Good}
 
 -- Bytes
@@ -46,83 +44,100 @@ module _ (img sheet : List ℕ) (at from until : ℕ) (size : until ≤ length s
 
 -- Words
 
+is-name : (k : Kind) → Dec (k ≡ Kind.Name)
+is-name Kind.Name = yes refl
+is-name k = no (λ e. cc)
+
 module _ (x : Extent) (w : ℕ) where
-  pub place-name : x.kind ≡ name_kind → place_of x w ≡ x.to + 8 * (x.words - 1 - w)
+  pub place-name : x.kind ≡ Kind.Name → place_of x w ≡ x.to + 8 * (x.words - 1 - w)
   unfolding place_of
   place-name e = rw (e, place_of)
 
-  pub place_other : (x.kind ≡ name_kind → ⊥) → place_of x w ≡ x.to + 8 * w
+  pub place_other : (x.kind ≡ Kind.Name → ⊥) → place_of x w ≡ x.to + 8 * w
   unfolding place_of
-  place_other n = rw (ne_eqb x.kind name_kind n, place_of)
+  place_other n = go x.kind refl
+    where
+      go : (k : Kind) → x.kind ≡ k → place_of x w ≡ x.to + 8 * w
+      go Kind.Name e = absurd (n e)
+      go k e = rw (e, place_of)
 
-  pub source_name : x.kind ≡ name_kind → source_of x w ≡ place_of x w
+  pub source_name : x.kind ≡ Kind.Name → source_of x w ≡ place_of x w
   unfolding source_of
-  source_name e = rw (e, source_of)
+  source_name e = ap (λ k. elim k [ Kind.Name ↦ place_of x w | _ ↦ x.from + 8 * w ]) e
 
-  pub source-other : (x.kind ≡ name_kind → ⊥) → source_of x w ≡ x.from + 8 * w
+  pub source-other : (x.kind ≡ Kind.Name → ⊥) → source_of x w ≡ x.from + 8 * w
   unfolding source_of
-  source-other n = rw (ne_eqb x.kind name_kind n, source_of)
+  source-other n = go x.kind refl
+    where
+      go : (k : Kind) → x.kind ≡ k → source_of x w ≡ x.from + 8 * w
+      go Kind.Name e = absurd (n e)
+      go k e = rw (e, source_of)
 
   -- a word lies within its extent
   pub place-within : w < x.words → (x.to ≤ place_of x w) × (place_of x w + 8 ≤ x.to + 8 * x.words)
-  place-within h = go (ℕ_discrete x.kind name_kind)
+  place-within h = go (is-name x.kind)
     where
-      go : Dec (x.kind ≡ name_kind) → (x.to ≤ place_of x w) × (place_of x w + 8 ≤ x.to + 8 * x.words)
+      go : Dec (x.kind ≡ Kind.Name) → (x.to ≤ place_of x w) × (place_of x w + 8 ≤ x.to + 8 * x.words)
       go (yes e) = omega (arith, place-name e)
       go (no n) = omega (arith, place_other n)
 
   -- and at a multiple of 8 if its extent does
   pub place-aligned : x.to % 8 ≡ 0 → place_of x w % 8 ≡ 0
-  place-aligned a = go (ℕ_discrete x.kind name_kind)
+  place-aligned a = go (is-name x.kind)
     where
-      go : Dec (x.kind ≡ name_kind) → place_of x w % 8 ≡ 0
+      go : Dec (x.kind ≡ Kind.Name) → place_of x w % 8 ≡ 0
       go (yes e) = omega (arith, place-name e)
       go (no n) = omega (arith, place_other n)
 
 module _ (sheet img : List ℕ) (x : Extent) where
-  pub text-image : x.kind ≡ copy_kind → text_of sheet img x ≡ take x.until img
+  pub text-image : x.kind ≡ Kind.Copy → text_of sheet img x ≡ take x.until img
   unfolding text_of
   text-image e = rw (e, text_of)
 
-  pub text-sheet : x.kind ≡ data_kind → text_of sheet img x ≡ take x.until sheet
+  pub text-sheet : x.kind ≡ Kind.Data → text_of sheet img x ≡ take x.until sheet
   unfolding text_of
   text-sheet e = rw (e, text_of)
 
-  pub text-name : x.kind ≡ name_kind → text_of sheet img x ≡ over img sheet x.value x.from x.until
+  pub text-name : x.kind ≡ Kind.Name → text_of sheet img x ≡ over img sheet x.value x.from x.until
   unfolding text_of
   text-name e = rw (e, text_of)
 
-  pub word_number : (w : ℕ) → x.kind ≡ number_kind → word_of sheet img x w ≡ x.value
+  pub word_number : (w : ℕ) → x.kind ≡ Kind.Number → word_of sheet img x w ≡ x.value
   unfolding word_of
   word_number w e = rw (e, word_of)
 
-  pub word_read : (w : ℕ) → (x.kind ≡ number_kind → ⊥) → word_of sheet img x w ≡ le 8 (text_of sheet img x) (source_of x w)
+  pub word_read : (w : ℕ) → (x.kind ≡ Kind.Number → ⊥) → word_of sheet img x w ≡ le 8 (text_of sheet img x) (source_of x w)
   unfolding word_of
-  word_read w n = rw (ne_eqb x.kind number_kind n, word_of)
+  word_read w n = go x.kind refl
+    where
+      go : (k : Kind) → x.kind ≡ k → word_of sheet img x w ≡ le 8 (text_of sheet img x) (source_of x w)
+      go Kind.Number e = absurd (n e)
+      go k e = ap (λ k. elim k [ Kind.Number ↦ x.value | _ ↦ le 8 (text_of sheet img x) (source_of x w) ]) e
 
   -- a word that lies whole before the cut of a text
-  pub word-whole : (w : ℕ) (s : List ℕ) → text_of sheet img x ≡ take x.until s → x.kind < number_kind → x.from + 8 * w + 8 ≤ x.until
-      → word_of sheet img x w ≡ le 8 s (x.from + 8 * w)
-  word-whole w s t k h =
-      word_read w (λ e. omega arith)
+  pub word-whole : (w : ℕ) (s : List ℕ) → text_of sheet img x ≡ take x.until s → (x.kind ≡ Kind.Number → ⊥) → (x.kind ≡ Kind.Name → ⊥)
+      → x.from + 8 * w + 8 ≤ x.until → word_of sheet img x w ≡ le 8 s (x.from + 8 * w)
+  word-whole w s t v n h =
+      word_read w v
       ∙ ap (λ l. le 8 l (source_of x w)) t
-      ∙ ap (le 8 (take x.until s)) (source-other x w (λ e. omega arith))
+      ∙ ap (le 8 (take x.until s)) (source-other x w n)
       ∙ le-cut 8 s x.until (x.from + 8 * w) h
 
 -- a word that is read lies where an image of n bytes and a sheet of m have room for its place
-module _ (n m : ℕ) (x : Extent) (good : Good n m x) (read : x.kind ≡ number_kind → ⊥) where
+module _ (n m : ℕ) (x : Extent) (good : Good n m x) (read : x.kind ≡ Kind.Number → ⊥) where
   pub from-within : x.from ≤ max n m
-  from-within = go (ℕ_discrete x.kind copy_kind) (ℕ_discrete x.kind data_kind)
+  from-within = go x.kind refl
     where
-      go : Dec (x.kind ≡ copy_kind) → Dec (x.kind ≡ data_kind) → x.from ≤ max n m
-      go (yes e) d = omega (arith, good.image e, good.order)
-      go (no a) (yes e) = omega (arith, good.sheet e, good.order)
-      go (no a) (no b) = omega (arith, (good.name (omega (arith, good.known))).0, good.order)
+      go : (k : Kind) → x.kind ≡ k → x.from ≤ max n m
+      go Kind.Copy e = omega (arith, good.image e, good.order)
+      go Kind.Data e = omega (arith, good.sheet e, good.order)
+      go Kind.Number e = absurd (read e)
+      go Kind.Name e = omega (arith, (good.name e).0, good.order)
 
-  pub source-within : (w : ℕ) → w < x.words → (source_of x w + 8 ≤ max n m + n) × (x.kind ≡ name_kind → source_of x w + 8 ≤ n)
-  source-within w h = go (ℕ_discrete x.kind name_kind)
+  pub source-within : (w : ℕ) → w < x.words → (source_of x w + 8 ≤ max n m + n) × (x.kind ≡ Kind.Name → source_of x w + 8 ≤ n)
+  source-within w h = go (is-name x.kind)
     where
-      go : Dec (x.kind ≡ name_kind) → (source_of x w + 8 ≤ max n m + n) × (x.kind ≡ name_kind → source_of x w + 8 ≤ n)
+      go : Dec (x.kind ≡ Kind.Name) → (source_of x w + 8 ≤ max n m + n) × (x.kind ≡ Kind.Name → source_of x w + 8 ≤ n)
       go (yes e) = (omega (arith, source_name x w e, place-within x w h, good.room), λ _. omega (arith, source_name x w e, place-within x w h, good.room))
       go (no a) = (omega (arith, source-other x w a, from-within, good.room), λ e. absurd (a e))
 

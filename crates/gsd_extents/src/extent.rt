@@ -1,28 +1,29 @@
 // An extent of stores, and the function that makes the next store of one.
-ghost use Rattle.std.specs.Prelude.{◌≡◌, true, ℕ, ◌+◌, ◌-◌, ◌*◌, ◌≤◌, ◌<◌, length, get_or, take};
+ghost use Rattle.std.specs.Prelude.{◌≡◌, ℕ, ◌+◌, ◌-◌, ◌*◌, ◌≤◌, ◌<◌, length, get_or, take};
 ghost use Rattle.gsd_format.specs.Bytes.{le, le_bytes, stored};
-ghost use Rattle.gsd_extents.specs.Extents.{number_kind, name_kind};
 ghost use Rattle.gsd_extents.specs.Exec.{place_of, over, text_of, source_of, word_of, Good, Near, tasks_from, exec};
 
-use gsd_bytes::{put_word, u64_at, wide};
+use gsd_bytes::{put_word, u64_at};
 
-// The kinds of extents. This one copies the image from `from` on, cut off at `until`, with zeros behind.
-pub const COPY: u64 = 0;
+// What the words of an extent are.
+#[derive(Clone, Copy, Debug, PartialEq, Eq)]
+pub enum Kind {
+    // the image from `from` on, cut off at `until`, with zeros behind
+    Copy,
+    // a row's data: the sheet in the same way
+    Data,
+    // the number `value`
+    Number,
+    // a name: the sheet's bytes from `from` to `until`, laid over the image from place `value` on. Its words go from the last to the
+    // first
+    Name,
+}
 
-// A row's data: the sheet is copied in the same way.
-pub const DATA: u64 = 1;
-
-// The number `value`.
-pub const NUMBER: u64 = 2;
-
-// A name: the sheet's bytes from `from` to `until` are laid over the image from place `value` on. Its words go from the last
-// to the first.
-pub const NAME: u64 = 3;
-
-// So many words from place `to` upwards, stored one after the other. The kind says what they are.
+// So many words from place `to` upwards, stored one after the other. The kind says what they are. It stands beside the fields, and its
+// variants have none: place_of, source_of and Good, which the theorems of the stores are about, read them whatever the kind is.
 #[derive(Clone, Copy)]
 pub struct Extent {
-    pub kind: u64,
+    pub kind: Kind,
     pub to: usize,
     pub words: usize,
     pub from: usize,
@@ -30,27 +31,30 @@ pub struct Extent {
     pub value: u64,
 }
 
-fn place(extent: Extent, w: usize) -> usize
-    requires target { extent.to + 8 * extent.words < 18446744073709551616 }
-    requires word { w < extent.words }
-    ensures { result ≡ place_of extent w }
-{
-    if extent.kind == NAME {
-        return extent.to + 8 * (extent.words - 1 - w);
+impl Extent {
+    fn place(self, w: usize) -> usize
+        requires target { self.to + 8 * self.words < 18446744073709551616 }
+        requires word { w < self.words }
+        ensures { result ≡ place_of self w }
+    {
+        match self.kind {
+            Kind::Name => self.to + 8 * (self.words - 1 - w),
+            _ => self.to + 8 * w,
+        }
     }
-    extent.to + 8 * w
-}
 
-fn source(extent: Extent, w: usize) -> usize
-    requires target { extent.to + 8 * extent.words < 18446744073709551616 }
-    requires source { extent.from + 8 * extent.words < 18446744073709551616 }
-    requires word { w < extent.words }
-    ensures { result ≡ source_of extent w }
-{
-    if extent.kind == NAME {
-        return place(extent, w);
+    // How many of the first e words are near.
+    fn near_count(self, e: usize) -> usize
+        requires { self.from ≤ self.until }
+        ensures bound { result ≤ e }
+        ensures near { (w : ℕ) → w < result → Near self w }
+    {
+        match self.kind {
+            Kind::Copy | Kind::Data => e.min((self.until - self.from) / 8),
+            Kind::Number => e,
+            Kind::Name => 0,
+        }
     }
-    extent.from + 8 * w
 }
 
 // A byte of a slice that is cut off.
@@ -60,7 +64,7 @@ fn cut_byte(s: &[u8], i: usize, until: usize) -> u64
     ensures bound { result < 256 }
 {
     if i < until {
-        return wide(s[i]);
+        return u64::from(s[i]);
     }
     0
 }
@@ -75,181 +79,176 @@ fn over_byte(image: &[u8], sheet: &[u8], at: usize, from: usize, until: usize, i
     ensures bound { result < 256 }
 {
     if i < at {
-        return wide(image[i]);
+        return u64::from(image[i]);
     }
     let k = i - at;
     if k < until - from {
-        return wide(sheet[from + k]);
+        return u64::from(sheet[from + k]);
     }
-    wide(image[i])
+    u64::from(image[i])
 }
 
-// A byte of the text in which an extent's words are read.
-fn far_byte(image: &[u8], sheet: &[u8], extent: Extent, i: usize) -> u64
-    requires good { Good (length image.now) (length sheet.now) extent }
-    requires copies { extent.kind ≡ number_kind → ⊥ }
-    requires read { extent.kind ≡ name_kind → i < length image.now }
-    ensures answer { result ≡ get_or (text_of sheet.now image.now extent) i 0 }
-    ensures bound { result < 256 }
+// An extent that keeps to an image and a sheet, in which its words are read.
+#[derive(Clone, Copy)]
+struct Source<'a> {
+    image: &'a [u8],
+    sheet: &'a [u8],
+    extent: &'a Extent,
+    ghost good: { Good (length image.now) (length sheet.now) extent.now },
+}
+
+impl Source<'_> {
+    // Where word w is read in the extent's text.
+    fn read_at(&self, w: usize) -> usize
+        requires copies { self.now.extent.now.kind ≡ Kind.Number → ⊥ }
+        requires word { w < self.now.extent.now.words }
+        ensures { result ≡ source_of self.now.extent.now w }
+    {
+        match self.extent.kind {
+            Kind::Name => self.extent.place(w),
+            _ => self.extent.from + 8 * w,
+        }
+    }
+
+    // A byte of that text.
+    fn byte(&self, i: usize) -> u64
+        requires copies { self.now.extent.now.kind ≡ Kind.Number → ⊥ }
+        requires read { self.now.extent.now.kind ≡ Kind.Name → i < length self.now.image.now }
+        ensures answer { result ≡ get_or (text_of self.now.sheet.now self.now.image.now self.now.extent.now) i 0 }
+        ensures bound { result < 256 }
+    {
+        let extent = self.extent;
+        match extent.kind {
+            Kind::Copy => cut_byte(self.image, i, extent.until),
+            Kind::Data => cut_byte(self.sheet, i, extent.until),
+            Kind::Number => unreachable!(),
+            Kind::Name => over_byte(
+                self.image,
+                self.sheet,
+                extent.value as usize,
+                extent.from,
+                extent.until,
+                i,
+            ),
+        }
+    }
+
+    // A number, or a word whole before the cut.
+    fn near_word(&self, w: usize) -> u64
+        requires near { Near self.now.extent.now w }
+        ensures { result ≡ word_of self.now.sheet.now self.now.image.now self.now.extent.now w }
+    {
+        let from = self.extent.from;
+        match self.extent.kind {
+            Kind::Copy => u64_at(self.image, from + 8 * w),
+            Kind::Data => u64_at(self.sheet, from + 8 * w),
+            Kind::Number => self.extent.value,
+            Kind::Name => unreachable!(),
+        }
+    }
+
+    // Any word.
+    fn any_word(&self, w: usize) -> u64
+        requires word { w < self.now.extent.now.words }
+        ensures { result ≡ word_of self.now.sheet.now self.now.image.now self.now.extent.now w }
+    {
+        match self.extent.kind {
+            Kind::Number => self.extent.value,
+            _ => far_word(self.image, self.sheet, self.extent, w),
+        }
+    }
+}
+
+// Any word that is no number, byte by byte: no eight bytes stand anywhere that `from_le_bytes` could take, since each is of the image, of
+// the sheet or behind a cut. Out of line: inlined, it takes the registers from the loop over a name's words, which
+// then takes a tenth longer. It takes the parts of a source, which go in registers: as a method it takes that loop a tenth longer
+// too, since each word's source is written to memory.
+#[inline(never)]
+fn far_word(image: &[u8], sheet: &[u8], extent: &Extent, w: usize) -> u64
+    requires good { Good (length image.now) (length sheet.now) extent.now }
+    requires copies { extent.now.kind ≡ Kind.Number → ⊥ }
+    requires word { w < extent.now.words }
+    ensures { result ≡ le 8 (text_of sheet.now image.now extent.now) (source_of extent.now w) }
 {
-    if extent.kind == COPY {
-        return cut_byte(image, i, extent.until);
-    }
-    if extent.kind == DATA {
-        return cut_byte(sheet, i, extent.until);
-    }
-    over_byte(
+    let source = Source {
         image,
         sheet,
-        extent.value as usize,
-        extent.from,
-        extent.until,
-        i,
-    )
-}
-
-// Any word that is no number, byte by byte.
-fn far_word(image: &[u8], sheet: &[u8], extent: Extent, w: usize) -> u64
-    requires good { Good (length image.now) (length sheet.now) extent }
-    requires copies { extent.kind ≡ number_kind → ⊥ }
-    requires word { w < extent.words }
-    ensures { result ≡ le 8 (text_of sheet.now image.now extent) (source_of extent w) }
-{
-    let at = source(extent, w);
+        extent,
+    };
+    let at = source.read_at(w);
     let mut v = 0;
-    let mut k = 8;
-    while 0 < k {
-        k -= 1;
-        v = far_byte(image, sheet, extent, at + k) + 256 * v;
+    for k in (0..8).rev() {
+        v = source.byte(at + k) + 256 * v;
     }
     v
 }
 
-// A number, or a word whole before the cut.
-fn near_word(image: &[u8], sheet: &[u8], extent: Extent, w: usize) -> u64
-    requires good { Good (length image.now) (length sheet.now) extent }
-    requires near { Near extent w }
-    ensures { result ≡ word_of sheet.now image.now extent w }
-{
-    if extent.kind == NUMBER {
-        return extent.value;
-    }
-    let i = extent.from + 8 * w;
-    if extent.kind == COPY {
-        return u64_at(image, i);
-    }
-    u64_at(sheet, i)
-}
-
-// `near` is tested first: where it is known, one of the two ways is left, and the loop over near words moves blocks.
-fn word_at(image: &[u8], sheet: &[u8], extent: Extent, w: usize, near: bool) -> u64
-    requires good { Good (length image.now) (length sheet.now) extent }
-    requires word { w < extent.words }
-    requires near { near ≡ true → Near extent w }
-    ensures { result ≡ word_of sheet.now image.now extent w }
-{
-    if near {
-        return near_word(image, sheet, extent, w);
-    }
-    if extent.kind == NUMBER {
-        return extent.value;
-    }
-    far_word(image, sheet, extent, w)
-}
-
-// The next store: word w of the extent. Nothing else writes the image.
-pub(crate) fn next_store(image: &mut [u8], sheet: &[u8], extent: Extent, w: usize, near: bool)
+// The next store: word w of the extent, which is v. Nothing else writes the image. The contract alone needs the sheet, to say
+// which word that is. The theorems one_store and each-store are about these clauses, so they name each part, and so do those of
+// the loops that call it.
+pub(crate) fn next_store(image: &mut [u8], sheet: &[u8], extent: Extent, w: usize, v: u64)
     requires good { Good (length image.old) (length sheet.now) extent }
     requires word { w < extent.words }
-    requires near { near ≡ true → Near extent w }
+    requires value { v ≡ word_of sheet.now image.old extent w }
     ensures next { image.new
         ≡ stored image.old (place_of extent w) (le_bytes 8 (word_of sheet.now image.old extent w)) }
 {
-    let v = word_at(image, sheet, extent, w, near);
-    put_word(image, place(extent, w), v);
-}
-
-// Does an extent store the number 0?
-fn is_zeros(extent: Extent) -> bool
-    ensures { result ≡ true → (extent.kind ≡ number_kind) × (extent.value ≡ 0) }
-{
-    if extent.kind != NUMBER {
-        return false;
-    }
-    extent.value == 0
+    put_word(image, extent.place(w), v);
 }
 
 // The n stores of an extent of zeros from word w on. The compiler knows the number here, and makes a memset of the loop.
 fn stores_of_zeros(image: &mut [u8], sheet: &[u8], extent: Extent, w: usize, n: usize)
     requires good { Good (length image.old) (length sheet.now) extent }
     requires words { w + n ≤ extent.words }
-    requires number { extent.kind ≡ number_kind }
+    requires number { extent.kind ≡ Kind.Number }
     requires zero { extent.value ≡ 0 }
     ensures { image.new ≡ exec sheet.now image.old (tasks_from extent w n) }
 {
-    let zeros = Extent {
-        kind: NUMBER,
-        to: extent.to,
-        words: extent.words,
-        from: extent.from,
-        until: extent.until,
-        value: 0,
-    };
-    let end = w + n;
-    let mut i = w;
-    while i < end {
-        next_store(image, sheet, zeros, i, true);
-        i += 1;
+    for i in w..w + n {
+        next_store(image, sheet, extent, i, 0);
     }
 }
 
-// How many of the first e words are near.
-fn near_count(extent: Extent, e: usize) -> usize
-    requires { extent.from ≤ extent.until }
-    ensures bound { result ≤ e }
-    ensures near { (w : ℕ) → w < result → Near extent w }
-{
-    if extent.kind == NUMBER {
-        return e;
-    }
-    if DATA < extent.kind {
-        return 0;
-    }
-    let whole = (extent.until - extent.from) / 8;
-    if e < whole {
-        return e;
-    }
-    whole
-}
-
-// The n stores of any other extent from word w on: a loop for the near words, and one for those behind them.
+// The n stores of any other extent from word w on: a loop for the near words, which moves blocks, and one for those behind them.
 fn other_stores(image: &mut [u8], sheet: &[u8], extent: Extent, w: usize, n: usize)
     requires good { Good (length image.old) (length sheet.now) extent }
     requires words { w + n ≤ extent.words }
     ensures { image.new ≡ exec sheet.now image.old (tasks_from extent w n) }
 {
     let e = w + n;
-    let f = near_count(extent, e);
-    let mut i = w;
-    while i < f {
-        next_store(image, sheet, extent, i, true);
-        i += 1;
+    let f = extent.near_count(e).max(w);
+    for i in w..f {
+        let source = Source {
+            image,
+            sheet,
+            extent: &extent,
+        };
+        let near = source.near_word(i);
+        next_store(image, sheet, extent, i, near);
     }
-    while i < e {
-        next_store(image, sheet, extent, i, false);
-        i += 1;
+    for i in f..e {
+        let source = Source {
+            image,
+            sheet,
+            extent: &extent,
+        };
+        let far = source.any_word(i);
+        next_store(image, sheet, extent, i, far);
     }
 }
 
-// The n stores of an extent from word w on.
+// The n stores of an extent from word w on. Public: its clauses stay.
 pub fn stores(image: &mut [u8], sheet: &[u8], extent: Extent, w: usize, n: usize)
     requires good { Good (length image.old) (length sheet.now) extent }
     requires words { w + n ≤ extent.words }
     ensures { image.new ≡ exec sheet.now image.old (tasks_from extent w n) }
 {
-    if is_zeros(extent) {
-        stores_of_zeros(image, sheet, extent, w, n);
-        return;
+    match extent {
+        Extent {
+            kind: Kind::Number,
+            value: 0,
+            ..
+        } => stores_of_zeros(image, sheet, extent, w, n),
+        _ => other_stores(image, sheet, extent, w, n),
     }
-    other_stores(image, sheet, extent, w, n);
 }

@@ -3,7 +3,7 @@
 ghost use Rattle.std.specs.Prelude.{◌≡◌, ◌+◌, ◌*◌, ◌≤◌, leb};
 ghost use Rattle.gsd_extents.specs.Exec.{source_keeps, keeps_to};
 
-use crate::extent::{COPY, DATA, Extent, NAME, NUMBER};
+use crate::extent::{Extent, Kind};
 
 // So many bytes from a on lie within n.
 pub fn within(a: usize, bytes: usize, n: usize) -> bool
@@ -28,19 +28,14 @@ fn source_keeps(extent: Extent, n: usize, m: usize) -> bool
     requires order { extent.from ≤ extent.until }
     ensures { result ≡ source_keeps n m extent }
 {
-    if extent.kind == COPY {
-        return extent.until <= n;
+    match extent.kind {
+        Kind::Copy => extent.until <= n,
+        Kind::Data => extent.until <= m,
+        Kind::Number => true,
+        Kind::Name => {
+            extent.until <= m && within(extent.value as usize, extent.until - extent.from, n)
+        }
     }
-    if extent.kind == DATA {
-        return extent.until <= m;
-    }
-    if extent.kind != NAME {
-        return extent.kind == NUMBER;
-    }
-    if m < extent.until {
-        return false;
-    }
-    within(extent.value as usize, extent.until - extent.from, n)
 }
 
 pub fn keeps(extent: Extent, n: usize, m: usize) -> bool

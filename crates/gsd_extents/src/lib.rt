@@ -5,5 +5,5 @@
 mod extent;
 mod keeping;
 
-pub use extent::{COPY, DATA, Extent, NAME, NUMBER, stores};
+pub use extent::{Extent, Kind, stores};
 pub use keeping::{keeps, within};

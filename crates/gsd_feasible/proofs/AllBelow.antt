@@ -1,11 +1,13 @@
 -- Laws of a test of every number below n: it tells whether it holds of each.
-use Prim.Native.Nat.{ℕ, zero, suc, ◌+◌, ◌≤◌, ◌<◌}
+use Prim.Native.Nat.{ℕ, zero, suc, ◌+◌, ◌<◌}
 use mathlib.Core.Path.{◌≡◌, refl, sym, ◌∙◌, ap}
-use mathlib.Core.Bool.{Bool, true, false, true≢false}
-use native.Mathlib.Nat.{le_antisymm}
+use mathlib.Core.Bool.{Bool, true, ◌&&◌}
+use native.Mathlib.Nat.{add-zero, zero-add}
 use native.Mathlib.Numerals.{add-one}
 use native.Mathlib.Omega.{arith}
 use native.Mathlib.Decide.{ℕ_discrete}
+use Rattle.std.specs.List.{list_all, range_with_len}
+use Rattle.std.proofs.Math.Bool.{and_assoc, and-true}
 use Rattle.gsd_format.proofs.Refusals.{both_true, both_of}
 use Rattle.gsd_feasible.specs.Feasible.{all_below}
 
@@ -24,21 +26,16 @@ module _ (f : ℕ → Bool) where
   each_all zero h = refl
   each_all (suc n) h = both_of (all_below n f) (f n) (each_all n (λ i l. h i (omega arith))) (h n (omega arith))
 
-  pub one-fails : (n i : ℕ) → i < n → f i ≡ false → all_below n f ≡ false
-  one-fails n i l h = go (all_below n f) refl
-    where
-      go : (b : Bool) → all_below n f ≡ b → all_below n f ≡ false
-      go true e = absurd (true≢false (sym (all-each n e i l) ∙ h))
-      go false e = e
-
-  -- a loop that tests one after the other
-  pub all_none : all_below 0 f ≡ true
+  -- an iterator's test of the numbers from a on
+  from-range : (a n : ℕ) → (all_below a f && list_all f (range_with_len a n)) ≡ all_below (a + n) f
   unfolding all_below
-  all_none = refl
+  from-range a zero = and-true (all_below a f) ∙ ap (λ k. all_below k f) (sym (add-zero a))
+  from-range a (suc n) =
+      let one : all_below (a + 1) f ≡ (all_below a f && f a) = rw (add-one, all_below) in
+      let last : a + 1 + n ≡ a + suc n = omega arith in
+      sym (and_assoc (all_below a f) (f a) (list_all f (range_with_len (a + 1) n)))
+      ∙ ap (λ t. t && list_all f (range_with_len (a + 1) n)) (sym one) ∙ from-range (a + 1) n ∙ ap (λ k. all_below k f) last
 
-  pub all_more : (i : ℕ) → all_below i f ≡ true → f i ≡ true → all_below (i + 1) f ≡ true
+  pub all-range : (n : ℕ) → list_all f (range_with_len 0 n) ≡ all_below n f
   unfolding all_below
-  all_more i h g = rw add-one (both_of (all_below i f) (f i) h g)
-
-  pub all_end : (i n : ℕ) → i ≤ n → n ≤ i → all_below i f ≡ true → true ≡ all_below n f
-  all_end i n l g h = sym h ∙ ap (λ k. all_below k f) (le_antisymm l g)
+  all-range n = from-range 0 n ∙ ap (λ k. all_below k f) (zero-add n)

@@ -6,7 +6,7 @@ ghost use Rattle.std.specs.Prelude.{◌≡◌, ◌+◌, ◌*◌, ◌≤◌, leng
 ghost use Rattle.gsd_format.specs.Bytes.{le};
 ghost use Rattle.gsd_fingerprint.specs.Fingerprint as Fingerprint;
 
-use gsd_bytes::{TWO_TO_32, u32_at, u64_at, wide};
+use gsd_bytes::{TWO_TO_32, u32_at, u64_at};
 
 // The bytes of a block: a word for each lane.
 const BLOCK: usize = 32;
@@ -42,14 +42,12 @@ fn blocks(s: &[u8], n: usize) -> u64
     let mut b = 0;
     let mut c = 0;
     let mut d = 0;
-    let mut i = 0;
-    while i < n {
+    for i in 0..n {
         let at = BLOCK * i;
         a = mixed_at(a, s, at);
         b = mixed_at(b, s, at + 8);
         c = mixed_at(c, s, at + 16);
         d = mixed_at(d, s, at + 24);
-        i += 1;
     }
     mixed(mixed(mixed(mixed(0, a), b), c), d)
 }
@@ -60,10 +58,8 @@ fn words(s: &[u8], at: usize, n: usize, start: u64) -> u64
     ensures { result ≡ Fingerprint.lane 8 s.now at n start }
 {
     let mut h = start;
-    let mut i = 0;
-    while i < n {
+    for i in 0..n {
         h = mixed_at(h, s, 8 * i + at);
-        i += 1;
     }
     h
 }
@@ -81,7 +77,7 @@ fn ending(s: &[u8]) -> u64
     if n == 0 {
         return 0;
     }
-    wide(s[0]) + 256 * wide(s[n / 2]) + 65536 * wide(s[n - 1])
+    u64::from(u32::from_le_bytes([s[0], s[n / 2], s[n - 1], 0]))
 }
 
 fn folded(x: u64) -> u32

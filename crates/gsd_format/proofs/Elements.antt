@@ -1,4 +1,5 @@
 -- The equations of elements: one for each kind of number, and for the k-th element of a chunk; which of them are NaNs.
+use Rattle.std.specs.Prelude.{Ok, Err}
 use Prim.Native.Nat.{ℕ, zero, suc, ◌+◌, ◌*◌, ◌-◌, ◌/◌, ◌^◌, ◌≤◌, ◌<◌}
 use mathlib.Core.Path.{◌≡◌, refl, sym, ◌∙◌}
 use mathlib.Core.Bool.{Bool, cond, true, false, true≢false, ◌||◌}
@@ -12,7 +13,7 @@ use lib.Ieee as Ieee
 use lib.Ieee.Bits.{nan_bits_is}
 use borrow.Author.Tests.{le-leb, lt-leb, lt-ltb, le-ltb, ne_eqb}
 use Rattle.gsd_format.specs.declared.Entry.{Entry}
-use Rattle.gsd_format.specs.declared.Element.{Element}
+use Rattle.gsd_format.specs.declared.element.Number.{Number}
 use Rattle.gsd_format.specs.Bytes.{le}
 use Rattle.gsd_format.specs.Types.{size_of}
 use Rattle.gsd_format.specs.Elements.{signed, element_of, element_in, nan_element, NanAt, any_nan}
@@ -30,33 +31,33 @@ signed_is w bits half e = by_cases (256 ^ w) (256 ^ w / 2) e (omega arith)
     by_cases : (p h : ℕ) → p ≡ 2 * half → h ≡ half → elim (ltb bits h) [ true ↦ pos bits | false ↦ negsuc (p - 1 - bits) ] ≡ cond (ltb bits half) (pos bits) (negsuc (2 * half - 1 - bits))
     by_cases p h a b = (λ i. elim (ltb bits (b i)) [ true ↦ pos bits | false ↦ negsuc (a i - 1 - bits) ]) ∙ by-test (ltb bits half)
 
-pub element-unsigned : (kind bits : ℕ) → kind ≤ 4 → element_of kind bits ≡ Element.Unsigned bits
+pub element-unsigned : (kind bits : ℕ) → kind ≤ 4 → element_of kind bits ≡ Number.Unsigned bits
 unfolding element_of
 element-unsigned kind bits h = rw (le-leb kind 4 h, element_of)
 
-pub element-character : (bits : ℕ) → element_of 11 bits ≡ Element.Unsigned bits
+pub element-character : (bits : ℕ) → element_of 11 bits ≡ Number.Unsigned bits
 unfolding element_of
 element-character bits = refl
 
-pub element-signed : (kind bits : ℕ) → 4 < kind → kind ≤ 8 → element_of kind bits ≡ Element.Signed (signed (size_of kind) bits)
+pub element-signed : (kind bits : ℕ) → 4 < kind → kind ≤ 8 → element_of kind bits ≡ Number.Signed (signed (size_of kind) bits)
 unfolding element_of
 element-signed kind bits h g = rw (lt-leb kind 4 h, ne_eqb kind 11 (λ e. omega arith), le-leb kind 8 g, element_of)
 
-pub element-single : (bits : ℕ) → element_of 9 bits ≡ Element.Single (Ieee.of_bits Ieee.binary32 bits) bits
+pub element-single : (bits : ℕ) → element_of 9 bits ≡ Number.Single (Ieee.of_bits Ieee.binary32 bits) bits
 unfolding element_of
 element-single bits = refl
 
-pub element-double : (bits : ℕ) → element_of 10 bits ≡ Element.Double (Ieee.of_bits Ieee.binary64 bits) bits
+pub element-double : (bits : ℕ) → element_of 10 bits ≡ Number.Double (Ieee.of_bits Ieee.binary64 bits) bits
 unfolding element_of
 element-double bits = refl
 
 -- the k-th element of a chunk, and none behind its last
 pub element-at : (img : List ℕ) (e : Entry) (k : ℕ) → k < e.n * e.m →
-    element_in img e k ≡ element_of e.kind (le (size_of e.kind) img (e.location + k * size_of e.kind))
+    element_in img e k ≡ Ok (element_of e.kind (le (size_of e.kind) img (e.location + k * size_of e.kind)))
 unfolding element_in
 element-at img e k h = rw (lt-ltb k (e.n * e.m) h, element_in)
 
-pub element-behind : (img : List ℕ) (e : Entry) (k : ℕ) → e.n * e.m ≤ k → element_in img e k ≡ Element.Refused 43
+pub element-behind : (img : List ℕ) (e : Entry) (k : ℕ) → e.n * e.m ≤ k → element_in img e k ≡ Err 43
 unfolding element_in
 element-behind img e k h = rw (le-ltb k (e.n * e.m) h, element_in)
 

@@ -1,5 +1,6 @@
 -- A created image is a fresh one: what stands where in it, and so that it opens with nothing listed. One theorem over all arguments
 -- that create accepts.
+use Rattle.std.specs.Prelude.{Ok}
 use Prim.Native.Nat.{ℕ, ◌+◌, ◌*◌, ◌-◌, ◌^◌, ◌≤◌, ◌<◌}
 use mathlib.Core.Path.{◌≡◌, refl, sym, ◌∙◌, ap}
 use mathlib.Core.Bool.{true}
@@ -8,7 +9,6 @@ use native.Mathlib.Omega.{arith}
 use lib.ListN.{length, get_or, take, drop, length-append, length-drop, length-replicate, get_or-replicate, get_or-append}
 use lib.Seq.{get_or-append-add, get_or-drop, drop-drop, take_at, drop_at}
 use Rattle.gsd_format.specs.declared.Layout.{Layout}
-use Rattle.gsd_format.specs.declared.Opening.{Opening}
 use Rattle.gsd_format.specs.Bytes.{le, le_bytes, part, zero_in, zeros}
 use Rattle.gsd_format.specs.Header.{magic, version21, header_size, version_of, layout_of}
 use Rattle.gsd_format.specs.Names.{flat, names_of}
@@ -158,7 +158,7 @@ module _ (slice application schema : List ℕ) (schema_version slots segments : 
 
   fresh-is : schema_version < 2 ^ 32 → Fresh slice application schema schema_version slots segments x
   fresh-is h = record {
-    opens = opening-open x fresh-opens ∙ ap Opening.Open nothing-listed;
+    opens = opening-open x fresh-opens ∙ ap Ok nothing-listed;
     layout = laid;
     same_version = schema-version h;
     same_application = application-text;

@@ -21,4 +21,3 @@ pub mod Calls
 pub mod Probes
 pub mod Newest
 pub mod Readers
-pub mod ReaderNumbers

@@ -1,5 +1,6 @@
 -- The newest entry of an id at or below a frame: what it is, where there is one and where there is none; and in a list as 15 leaves
 -- it a reader's way to it finds it.
+use Rattle.std.specs.Prelude.{Result, Ok, Err}
 use Prim.Native.Nat.{ℕ, zero, suc, ◌+◌, ◌≤◌, ◌<◌}
 use mathlib.Core.Path.{◌≡◌, refl, sym, ◌∙◌, ap}
 use mathlib.Core.Bool.{Bool, true, false, ◌&&◌}
@@ -10,7 +11,6 @@ use lib.ListN.{length, get_or}
 use lib.Dec.{leb, eqb}
 use borrow.Author.Tests.{le-leb, lt-leb, eq-eqb, ne_eqb}
 use Rattle.gsd_format.specs.declared.Entry.{Entry}
-use Rattle.gsd_format.specs.declared.Listed.{Listed}
 use Rattle.gsd_format.specs.Header.{v10}
 use Rattle.gsd_format.specs.Lookup.{none}
 use Rattle.gsd_format.specs.Search.{halved}
@@ -34,7 +34,7 @@ no-candidate frame id e n = go (dec_le e.frame frame)
     go (no f) = rw (lt-leb e.frame frame (omega arith))
 
 module _ (frame id : ℕ) where
-  newest-none : newest_entry frame id [] ≡ Listed.Refused 42
+  newest-none : newest_entry frame id [] ≡ Err 42
   unfolding newest_entry
   newest-none = refl
 
@@ -42,27 +42,27 @@ module _ (frame id : ℕ) where
   unfolding newest_entry
   newest-on e es = refl
 
-  or_later : (l : Listed) (later : Entry) (b : Bool) (e : Entry) → l ≡ Listed.Found later → or_entry l b e ≡ Listed.Found later
+  or_later : (l : Result Entry ℕ) (later : Entry) (b : Bool) (e : Entry) → l ≡ Ok later → or_entry l b e ≡ Ok later
   unfolding or_entry
   or_later l later b e h = rw (h, or_entry)
 
-  or-here : (l : Listed) (n : ℕ) (b : Bool) (e : Entry) → l ≡ Listed.Refused n → b ≡ true → or_entry l b e ≡ Listed.Found e
+  or-here : (l : Result Entry ℕ) (n : ℕ) (b : Bool) (e : Entry) → l ≡ Err n → b ≡ true → or_entry l b e ≡ Ok e
   unfolding or_entry
   or-here l n b e h t = rw (h, t, or_entry)
 
-  or-none : (l : Listed) (n : ℕ) (b : Bool) (e : Entry) → l ≡ Listed.Refused n → b ≡ false → or_entry l b e ≡ Listed.Refused n
+  or-none : (l : Result Entry ℕ) (n : ℕ) (b : Bool) (e : Entry) → l ≡ Err n → b ≡ false → or_entry l b e ≡ Err n
   unfolding or_entry
   or-none l n b e h t = rw (h, t, or_entry)
 
   -- none is one
-  pub newest-absent : (es : List Entry) → ((j : ℕ) → j < length es → Candidate frame id (get_or es j none) → ⊥) → newest_entry frame id es ≡ Listed.Refused 42
+  pub newest-absent : (es : List Entry) → ((j : ℕ) → j < length es → Candidate frame id (get_or es j none) → ⊥) → newest_entry frame id es ≡ Err 42
   newest-absent [] n = newest-none
   newest-absent (e ∷ es) n =
       newest-on e es ∙ or-none _ 42 _ e (newest-absent es (λ j l. n (suc j) (omega arith))) (no-candidate frame id e (n 0 (omega arith)))
 
   -- the i-th is one, and none behind it
   pub newest-found : (es : List Entry) (i : ℕ) → i < length es → Candidate frame id (get_or es i none) →
-      ((j : ℕ) → i < j → j < length es → Candidate frame id (get_or es j none) → ⊥) → newest_entry frame id es ≡ Listed.Found (get_or es i none)
+      ((j : ℕ) → i < j → j < length es → Candidate frame id (get_or es j none) → ⊥) → newest_entry frame id es ≡ Ok (get_or es i none)
   newest-found [] i l c n = absurd (omega arith)
   newest-found (e ∷ es) zero l c n =
       newest-on e es ∙ or-here _ 42 _ e (newest-absent es (λ j u. n (suc j) (omega arith) (omega arith))) (candidate frame id e c)
@@ -72,11 +72,11 @@ module _ (frame id : ℕ) where
 -- The walk down
 
 module _ (id : ℕ) (es : List Entry) where
-  pub last_none : last_before id es 0 ≡ Listed.Refused 42
+  pub last_none : last_before id es 0 ≡ Err 42
   unfolding last_before
   last_none = refl
 
-  pub last-here : (p : ℕ) → (get_or es p none).id ≡ id → last_before id es (suc p) ≡ Listed.Found (get_or es p none)
+  pub last-here : (p : ℕ) → (get_or es p none).id ≡ id → last_before id es (suc p) ≡ Ok (get_or es p none)
   unfolding last_before
   last-here p d = rw (eq-eqb (get_or es p none).id id d, last_before)
 

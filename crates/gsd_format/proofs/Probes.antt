@@ -1,4 +1,5 @@
 -- A lookup's probes: its list where it searches and where it does not, and that every promise about it holds.
+use Rattle.std.specs.Prelude.{Ok, Err}
 use Prim.Native.Nat.{ℕ, zero, suc, ◌+◌, ◌≤◌, ◌<◌}
 use mathlib.Core.Path.{◌≡◌, refl, sym, ◌∙◌, ap}
 use mathlib.Core.Logic.{◌↔◌}
@@ -9,7 +10,6 @@ use native.Mathlib.Omega.{arith}
 use lib.ListN.{length, get_or}
 use borrow.Author.Tests.{ltb-true, not-false, lt-ltb}
 use Rattle.gsd_format.specs.declared.Entry.{Entry}
-use Rattle.gsd_format.specs.declared.Listed.{Listed}
 use Rattle.gsd_format.specs.Refusals.{◌⇒◌, ◌▹◌}
 use Rattle.gsd_format.specs.Header.{layout_of}
 use Rattle.gsd_format.specs.Names.{names_of, index_of}
@@ -17,7 +17,7 @@ use Rattle.gsd_format.specs.Entries.{entries_of, frames_of}
 use Rattle.gsd_format.specs.Opening.{most_names, verdict}
 use Rattle.gsd_format.specs.Lookup.{nth_entry, lookup}
 use Rattle.gsd_format.specs.Search.{binary_digits, halved, probed}
-use Rattle.gsd_format.specs.Answers.{listed_number}
+use Rattle.gsd_format.specs.Answers.{number_of}
 use Rattle.gsd_format.specs.Calls.{unless, has_entry, lookup_test, search_test, probes_of}
 use Rattle.gsd_format.specs.Probes.{spread, Among, Around, Belongs, Probes}
 use Rattle.gsd_format.proofs.Refusals.{both, none_of, stays, ▹-assoc, unmet, passed, first-most, test-most, not-of}
@@ -70,7 +70,7 @@ module _ (img : List ℕ) (frame : ℕ) (name : List ℕ) where
       from p = none_of _ _ p.0 (none_of _ _ (passed _ _ (not-of _ (lt-ltb _ _ p.1))) (passed _ _ (not-of _ (lt-ltb _ _ p.2))))
 
   -- where it finds an entry or answers 42 it has searched
-  found-searches : (e : Entry) → lookup img frame name ≡ Listed.Found e → search_test img frame name ≡ 0
+  found-searches : (e : Entry) → lookup img frame name ≡ Ok e → search_test img frame name ≡ 0
   found-searches e h =
       let opens : verdict img ≡ 0 = found-opens img frame name e h in
       let met : Met (entries_of img) (names_of img) frame name e =
@@ -82,12 +82,11 @@ module _ (img : List ℕ) (frame : ℕ) (name : List ℕ) where
   search-most =
       first-most 41 _ _ (omega (arith, verdict-most img)) (first-most 41 _ _ (test-most 41 _ 40 (omega arith)) (test-most 41 _ 41 (omega arith)))
 
-  missing-searches : lookup img frame name ≡ Listed.Refused 42 → search_test img frame name ≡ 0
-  unfolding listed_number
+  missing-searches : lookup img frame name ≡ Err 42 → search_test img frame name ≡ 0
   missing-searches h = go (ℕ_discrete (search_test img frame name) 0)
     where
       number : lookup_test img frame name ≡ 42
-      number = sym (lookup-says img frame name (lookup img frame name) refl).1.0 ∙ ap listed_number h
+      number = sym (lookup-says img frame name (lookup img frame name) refl).1.0 ∙ ap number_of h
 
       go : Dec (search_test img frame name ≡ 0) → search_test img frame name ≡ 0
       go (yes z) = z
@@ -121,20 +120,20 @@ module _ (img : List ℕ) (frame : ℕ) (name : List ℕ) where
     unsought = probes-none;
   }
     where
-      found : (e : Entry) → lookup img frame name ≡ Listed.Found e → search_test img frame name ≡ 0 →
-          (i : ℕ) × (nth_entry img i ≡ Listed.Found e) × Among i (probes_of img frame name)
+      found : (e : Entry) → lookup img frame name ≡ Ok e → search_test img frame name ≡ 0 →
+          (i : ℕ) × (nth_entry img i ≡ Ok e) × Among i (probes_of img frame name)
       found e h z =
           let opens : verdict img ≡ 0 = (search-zero.0 z).0 in
           let met : Met (entries_of img) (names_of img) frame name e =
           (look-found (entries_of img) (names_of img) frame name e).0 (sym (opened-lookup img opens frame name) ∙ h) in
           let s : Stands (entries_of img) frame id e = find-sound frame id (entries_of img) e met.2 in (
             s.place,
-            opened-entry img opens s.place s.within ∙ ap Listed.Found s.there,
+            opened-entry img opens s.place s.within ∙ ap Ok s.there,
             among s.place z (probed-found version frame id (entries_of img) (arranged z) (ids z) (short z)
                 s.place s.within (stands-frame s) (stands-id s)),
           )
 
-      missing : lookup img frame name ≡ Listed.Refused 42 → search_test img frame name ≡ 0 →
+      missing : lookup img frame name ≡ Err 42 → search_test img frame name ≡ 0 →
           (p : ℕ) × Belongs version frame id (entries_of img) p (spread version frame (entries_of img))
           × Around p (spread version frame (entries_of img)) (length (entries_of img)) (probes_of img frame name)
       missing h z =

@@ -1,5 +1,6 @@
 -- What a reader answers: the reader of an image answers, on every image that kept what the image listed, as the calls do on
 -- the image itself. On the image itself that is the first theorem about readers.
+use Rattle.std.specs.Prelude.{Result, Ok, Err}
 use Prim.Native.Nat.{ℕ, zero, suc, ◌+◌, ◌*◌, ◌-◌, ◌≤◌, ◌<◌}
 use mathlib.Core.Path.{◌≡◌, refl, sym, ◌∙◌, ap}
 use mathlib.Core.Bool.{true, false}
@@ -12,12 +13,7 @@ use lib.Seq.{take-length}
 use borrow.Author.Tests.{lt-ltb, le-ltb, le-leb}
 use Rattle.gsd_format.specs.declared.Entry.{Entry}
 use Rattle.gsd_format.specs.declared.Part.{Part}
-use Rattle.gsd_format.specs.declared.Listed.{Listed}
-use Rattle.gsd_format.specs.declared.Place.{Place}
-use Rattle.gsd_format.specs.declared.Element.{Element}
 use Rattle.gsd_format.specs.declared.Reader.{Reader}
-use Rattle.gsd_format.specs.declared.Reading.{Reading}
-use Rattle.gsd_format.specs.declared.Ident.{Ident}
 use Rattle.gsd_format.specs.Types.{size_of, chunk_size}
 use Rattle.gsd_format.specs.Header.{greatest_length, layout_of}
 use Rattle.gsd_format.specs.Names.{name_parts, names_of, bytes_of, list_size, list_parts, index_of}
@@ -56,11 +52,11 @@ in-place-same m = record { long = refl; entries = λ k l. refl; names = λ k l. 
 -- The answers test by test: what fits
 
 module _ (r : Reader) (img : List ℕ) (fit : fits r img ≡ true) where
-  pub entry-there : (n : ℕ) → n < r.entries → entry_by r img n ≡ Listed.Found (entry_at img (r.index + 32 * n))
+  pub entry-there : (n : ℕ) → n < r.entries → entry_by r img n ≡ Ok (entry_at img (r.index + 32 * n))
   unfolding entry_by
   entry-there n l = rw (fit, lt-ltb n r.entries l, entry_by)
 
-  pub entry-behind : (n : ℕ) → r.entries ≤ n → entry_by r img n ≡ Listed.Refused 44
+  pub entry-behind : (n : ℕ) → r.entries ≤ n → entry_by r img n ≡ Err 44
   unfolding entry_by
   entry-behind n l = rw (fit, le-ltb n r.entries l, entry_by)
 
@@ -81,7 +77,7 @@ module _ (r : Reader) (img : List ℕ) (fit : fits r img ≡ true) where
   unfolding newest_by
   newest-fits frame id = rw (fit, newest_by)
 
-  pub look-behind : (frame : ℕ) (name : List ℕ) → r.frames ≤ frame → lookup_by r img frame name ≡ Listed.Refused 40
+  pub look-behind : (frame : ℕ) (name : List ℕ) → r.frames ≤ frame → lookup_by r img frame name ≡ Err 40
   unfolding lookup_by
   look-behind frame name l = rw (fit, le-ltb frame r.frames l, lookup_by)
 
@@ -91,46 +87,46 @@ module _ (r : Reader) (img : List ℕ) (fit : fits r img ≡ true) where
 
 -- what does not
 module _ (r : Reader) (img : List ℕ) (unfit : fits r img ≡ false) where
-  pub entry-33 : (n : ℕ) → entry_by r img n ≡ Listed.Refused 33
+  pub entry-33 : (n : ℕ) → entry_by r img n ≡ Err 33
   unfolding entry_by
   entry-33 n = rw (unfit, entry_by)
 
-  pub name-33 : (n : ℕ) → name_by r img n ≡ Place.Refused 33
+  pub name-33 : (n : ℕ) → name_by r img n ≡ Err 33
   unfolding name_by
   name-33 n = rw (unfit, name_by)
 
-  pub id-33 : (name : List ℕ) → id_by r img name ≡ Ident.Refused 33
+  pub id-33 : (name : List ℕ) → id_by r img name ≡ Err 33
   unfolding id_by
   id-33 name = rw (unfit, id_by)
 
-  pub find-33 : (frame id : ℕ) → find_by r img frame id ≡ Listed.Refused 33
+  pub find-33 : (frame id : ℕ) → find_by r img frame id ≡ Err 33
   unfolding find_by
   find-33 frame id = rw (unfit, find_by)
 
-  pub newest-33 : (frame id : ℕ) → newest_by r img frame id ≡ Listed.Refused 33
+  pub newest-33 : (frame id : ℕ) → newest_by r img frame id ≡ Err 33
   unfolding newest_by
   newest-33 frame id = rw (unfit, newest_by)
 
-  pub look-33 : (frame : ℕ) (name : List ℕ) → lookup_by r img frame name ≡ Listed.Refused 33
+  pub look-33 : (frame : ℕ) (name : List ℕ) → lookup_by r img frame name ≡ Err 33
   unfolding lookup_by
   look-33 frame name = rw (unfit, lookup_by)
 
 -- a frame and an id below their counts, or not
-module _ (frames names frame id : ℕ) (answer : Listed) where
+module _ (frames names frame id : ℕ) (answer : Result Entry ℕ) where
   pub counted-both : frame < frames → id < names → counted frames names frame id answer ≡ answer
   unfolding counted
   counted-both f d = rw (lt-ltb frame frames f, lt-ltb id names d, counted)
 
-  pub counted-frames : frames ≤ frame → counted frames names frame id answer ≡ Listed.Refused 40
+  pub counted-frames : frames ≤ frame → counted frames names frame id answer ≡ Err 40
   unfolding counted
   counted-frames f = rw (le-ltb frame frames f, counted)
 
-  pub counted-names : frame < frames → names ≤ id → counted frames names frame id answer ≡ Listed.Refused 41
+  pub counted-names : frame < frames → names ≤ id → counted frames names frame id answer ≡ Err 41
   unfolding counted
   counted-names f d = rw (lt-ltb frame frames f, le-ltb id names d, counted)
 
 -- answers that are equal where both are below
-counted_same : (frames names frame id : ℕ) (a b : Listed) → (frame < frames → id < names → a ≡ b) → counted frames names frame id a ≡ counted frames names frame id b
+counted_same : (frames names frame id : ℕ) (a b : Result Entry ℕ) → (frame < frames → id < names → a ≡ b) → counted frames names frame id a ≡ counted frames names frame id b
 counted_same frames names frame id a b h = go (dec_lt frame frames) (dec_lt id names)
   where
     go : Dec (frame < frames) → Dec (id < names) → counted frames names frame id a ≡ counted frames names frame id b
@@ -140,58 +136,58 @@ counted_same frames names frame id a b h = go (dec_lt frame frames) (dec_lt id n
 
 -- the n-th of some places
 module _ (ps : List Part) (n : ℕ) where
-  pub part-there : n < length ps → nth_part ps n ≡ Place.At (get_or ps n nowhere)
+  pub part-there : n < length ps → nth_part ps n ≡ Ok (get_or ps n nowhere)
   unfolding nth_part
   part-there l = rw (lt-ltb n (length ps) l, nth_part)
 
-  pub part-behind : length ps ≤ n → nth_part ps n ≡ Place.Refused 44
+  pub part-behind : length ps ≤ n → nth_part ps n ≡ Err 44
   unfolding nth_part
   part-behind l = rw (le-ltb n (length ps) l, nth_part)
 
 -- a name that is listed, or is not
 module _ (ns : List (List ℕ)) (name : List ℕ) where
-  pub ident-there : index_of name ns < length ns → ident_in ns name ≡ Ident.Is (index_of name ns)
+  pub ident-there : index_of name ns < length ns → ident_in ns name ≡ Ok (index_of name ns)
   unfolding ident_in
   ident-there l = rw (lt-ltb (index_of name ns) (length ns) l, ident_in)
 
-  pub ident-none : length ns ≤ index_of name ns → ident_in ns name ≡ Ident.Refused 41
+  pub ident-none : length ns ≤ index_of name ns → ident_in ns name ≡ Err 41
   unfolding ident_in
   ident-none l = rw (le-ltb (index_of name ns) (length ns) l, ident_in)
 
 -- an id that is found is the name's place
-pub ident-is : (ns : List (List ℕ)) (name : List ℕ) (id : ℕ) → ident_in ns name ≡ Ident.Is id → (index_of name ns ≡ id) × (id < length ns)
+pub ident-is : (ns : List (List ℕ)) (name : List ℕ) (id : ℕ) → ident_in ns name ≡ Ok id → (index_of name ns ≡ id) × (id < length ns)
 ident-is ns name id h = go (dec_lt (index_of name ns) (length ns))
   where
-    number : Ident → ℕ
-    number (Ident.Is i) = 0
-    number (Ident.Refused n) = n
+    number : Result ℕ ℕ → ℕ
+    number (Ok i) = 0
+    number (Err n) = n
 
-    value : Ident → ℕ
-    value (Ident.Is i) = i
-    value (Ident.Refused n) = 0
+    value : Result ℕ ℕ → ℕ
+    value (Ok i) = i
+    value (Err n) = 0
 
     go : Dec (index_of name ns < length ns) → (index_of name ns ≡ id) × (id < length ns)
     go (no l) =
-        let q : number (Ident.Refused 41) ≡ number (Ident.Is id) = ap number (sym (ident-none ns name (omega arith)) ∙ h) in absurd (omega (arith, q))
+        let q : number (Err 41) ≡ number (Ok id) = ap number (sym (ident-none ns name (omega arith)) ∙ h) in absurd (omega (arith, q))
     go (yes l) = let q : index_of name ns ≡ id = ap value (sym (ident-there ns name l) ∙ h) in (q, omega (arith, q))
 
 module _ (r : Reader) (img : List ℕ) (frame : ℕ) where
-  pub found-is : (i : Ident) (id : ℕ) → i ≡ Ident.Is id → found_for r img frame i ≡ searched r.version frame id (entries_by r img)
+  pub found-is : (i : Result ℕ ℕ) (id : ℕ) → i ≡ Ok id → found_for r img frame i ≡ searched r.version frame id (entries_by r img)
   unfolding found_for
   found-is i id e = rw (e, found_for)
 
-  pub found-not : (i : Ident) (n : ℕ) → i ≡ Ident.Refused n → found_for r img frame i ≡ Listed.Refused n
+  pub found-not : (i : Result ℕ ℕ) (n : ℕ) → i ≡ Err n → found_for r img frame i ≡ Err n
   unfolding found_for
   found-not i n e = rw (e, found_for)
 
 -- chunks and elements of what is found
 module _ (r : Reader) (img : List ℕ) where
-  module _ (l : Listed) (e : Entry) (found : l ≡ Listed.Found e) where
-    pub chunk-held : holds r img e ≡ true → chunk_for r img l ≡ Place.At (record { start = e.location; size = chunk_size e })
+  module _ (l : Result Entry ℕ) (e : Entry) (found : l ≡ Ok e) where
+    pub chunk-held : holds r img e ≡ true → chunk_for r img l ≡ Ok (record { start = e.location; size = chunk_size e })
     unfolding chunk_for
     chunk-held h = rw (found, chunk_for) (rw (h, chunk_for))
 
-    pub chunk-33 : holds r img e ≡ false → chunk_for r img l ≡ Place.Refused 33
+    pub chunk-33 : holds r img e ≡ false → chunk_for r img l ≡ Err 33
     unfolding chunk_for
     chunk-33 h = rw (found, chunk_for) (rw (h, chunk_for))
 
@@ -199,16 +195,16 @@ module _ (r : Reader) (img : List ℕ) where
     unfolding element_for
     element-held h k = rw (found, element_for) (rw (h, element_for))
 
-    pub element-33 : holds r img e ≡ false → (k : ℕ) → element_for r img l k ≡ Element.Refused 33
+    pub element-33 : holds r img e ≡ false → (k : ℕ) → element_for r img l k ≡ Err 33
     unfolding element_for
     element-33 h k = rw (found, element_for) (rw (h, element_for))
 
-  module _ (l : Listed) (n : ℕ) (refused : l ≡ Listed.Refused n) where
-    pub chunk-none : chunk_for r img l ≡ Place.Refused n
+  module _ (l : Result Entry ℕ) (n : ℕ) (refused : l ≡ Err n) where
+    pub chunk-none : chunk_for r img l ≡ Err n
     unfolding chunk_for
     chunk-none = rw (refused, chunk_for)
 
-    pub element-none : (k : ℕ) → element_for r img l k ≡ Element.Refused n
+    pub element-none : (k : ℕ) → element_for r img l k ≡ Err n
     unfolding element_for
     element-none k = rw (refused, element_for)
 
@@ -284,7 +280,7 @@ module _ (m y : List ℕ) (opens : verdict m ≡ 0) (kept : InPlace m y) where
   entry-reads n = go (dec_lt n (length (entries_of m)))
     where
       go : Dec (n < length (entries_of m)) → entry_by (reader_of m) y n ≡ nth_entry m n
-      go (yes l) = entry-there (reader_of m) y fits-there n l ∙ ap Listed.Found (listed-y.each n l) ∙ sym (opened-entry m opens n l)
+      go (yes l) = entry-there (reader_of m) y fits-there n l ∙ ap Ok (listed-y.each n l) ∙ sym (opened-entry m opens n l)
       go (no l) = entry-behind (reader_of m) y fits-there n (omega arith) ∙ sym (opened-no-entry m opens n (omega arith))
 
   -- each listed entry's chunk
@@ -351,7 +347,7 @@ module _ (m y : List ℕ) (opens : verdict m ≡ 0) (kept : InPlace m y) where
           ∙ sym (look-entry (entries_of m) (names_of m) frame name f n)
 
   -- what is found is an entry of m, with its chunk
-  module _ (frame : ℕ) (name : List ℕ) (e : Entry) (found : lookup m frame name ≡ Listed.Found e) where
+  module _ (frame : ℕ) (name : List ℕ) (e : Entry) (found : lookup m frame name ≡ Ok e) where
     stands : Stands (entries_of m) frame (index_of name (names_of m)) e
     stands =
         find-sound frame (index_of name (names_of m)) (entries_of m) e
@@ -367,7 +363,7 @@ module _ (m y : List ℕ) (opens : verdict m ≡ 0) (kept : InPlace m y) where
     unfolding holds reader_of
     held = both_of _ _ sound.typed (le-leb _ _ (let q : e.location + chunk_size e ≤ length y = omega (arith, kept.long, len, sound.within) in q))
 
-    by : lookup_by (reader_of m) y frame name ≡ Listed.Found e
+    by : lookup_by (reader_of m) y frame name ≡ Ok e
     by = look-reads frame name ∙ found
 
     chunk-found : chunk_place_by (reader_of m) y frame name ≡ chunk_place m frame name
@@ -383,7 +379,7 @@ module _ (m y : List ℕ) (opens : verdict m ≡ 0) (kept : InPlace m y) where
     element-same : (k : ℕ) → Dec (k < e.n * e.m) → element_in y e k ≡ element_in m e k
     element-same k (yes l) =
         element-at y e k l
-        ∙ ap (element_of e.kind) (le_same (size_of e.kind) y _ m _ (λ i u.
+        ∙ ap (λ bits. Ok (element_of e.kind bits)) (le_same (size_of e.kind) y _ m _ (λ i u.
         let q : e.location + k * size_of e.kind + i ≡ e.location + (k * size_of e.kind + i) = omega arith in
         rw q (there (k * size_of e.kind + i) (omega (arith, mul-le-mul_right (size_of e.kind) l)))))
         ∙ sym (element-at m e k l)
@@ -394,8 +390,8 @@ module _ (m y : List ℕ) (opens : verdict m ≡ 0) (kept : InPlace m y) where
     element-found k = element-held (reader_of m) y _ e by held k ∙ element-same k (dec_lt k (e.n * e.m)) ∙ sym (rw (found, element))
 
   -- a refusal is passed on
-  module _ (frame : ℕ) (name : List ℕ) (n : ℕ) (refused : lookup m frame name ≡ Listed.Refused n) where
-    not-by : lookup_by (reader_of m) y frame name ≡ Listed.Refused n
+  module _ (frame : ℕ) (name : List ℕ) (n : ℕ) (refused : lookup m frame name ≡ Err n) where
+    not-by : lookup_by (reader_of m) y frame name ≡ Err n
     not-by = look-reads frame name ∙ refused
 
     chunk-refused : chunk_place_by (reader_of m) y frame name ≡ chunk_place m frame name
@@ -428,50 +424,50 @@ module _ (m y : List ℕ) (opens : verdict m ≡ 0) (kept : InPlace m y) where
   }
     where
       -- found or refused
-      either : (f : ℕ) (n : List ℕ) (P : Type 0) → ((e : Entry) → lookup m f n ≡ Listed.Found e → P) → ((k : ℕ) → lookup m f n ≡ Listed.Refused k → P) → P
+      either : (f : ℕ) (n : List ℕ) (P : Type 0) → ((e : Entry) → lookup m f n ≡ Ok e → P) → ((k : ℕ) → lookup m f n ≡ Err k → P) → P
       either f n P a b = go (lookup m f n) refl
         where
-          go : (l : Listed) → lookup m f n ≡ l → P
-          go (Listed.Found e) q = a e q
-          go (Listed.Refused k) q = b k q
+          go : (l : Result Entry ℕ) → lookup m f n ≡ l → P
+          go (Ok e) q = a e q
+          go (Err k) q = b k q
 
 -- What opening gives
 
-pub reading-ready : (m : List ℕ) → verdict m ≡ 0 → reading m ≡ Reading.Ready (reader_of m)
+pub reading-ready : (m : List ℕ) → verdict m ≡ 0 → reading m ≡ Ok (reader_of m)
 unfolding reading
 reading-ready m opens = rw (opens, reading)
 
-pub reading-refused : (m : List ℕ) (k : ℕ) → verdict m ≡ suc k → reading m ≡ Reading.Refused (suc k)
+pub reading-refused : (m : List ℕ) (k : ℕ) → verdict m ≡ suc k → reading m ≡ Err (suc k)
 unfolding reading
 reading-refused m k h = rw (h, reading)
 
 -- a reader that opening gave is the image's, and the image opens
-pub reading-of : (m : List ℕ) (r : Reader) → reading m ≡ Reading.Ready r → (verdict m ≡ 0) × (r ≡ reader_of m)
+pub reading-of : (m : List ℕ) (r : Reader) → reading m ≡ Ok r → (verdict m ≡ 0) × (r ≡ reader_of m)
 reading-of m r h = go (verdict m) refl
   where
-    ready : Reading → ℕ
-    ready (Reading.Ready s) = 1
-    ready (Reading.Refused n) = 0
+    ready : Result Reader ℕ → ℕ
+    ready (Ok s) = 1
+    ready (Err n) = 0
 
-    reader : Reader → Reading → Reader
-    reader d (Reading.Ready s) = s
-    reader d (Reading.Refused n) = d
+    reader : Reader → Result Reader ℕ → Reader
+    reader d (Ok s) = s
+    reader d (Err n) = d
 
     go : (v : ℕ) → verdict m ≡ v → (verdict m ≡ 0) × (r ≡ reader_of m)
     go zero e = (e, ap (reader r) (sym h ∙ reading-ready m e))
-    go (suc k) e = let q : ready (Reading.Ready r) ≡ ready (Reading.Refused (suc k)) = ap ready (sym h ∙ reading-refused m k e) in absurd (omega (arith, q))
+    go (suc k) e = let q : ready (Ok r) ≡ ready (Err (suc k)) = ap ready (sym h ∙ reading-refused m k e) in absurd (omega (arith, q))
 
 -- Theorem: a reader that opening m gave answers, wherever what m lists is kept, as the calls do on m; on m itself too
-pub in_place_reads : (m y : List ℕ) (r : Reader) → reading m ≡ Reading.Ready r → InPlace m y → Reads r y m
+pub in_place_reads : (m y : List ℕ) (r : Reader) → reading m ≡ Ok r → InPlace m y → Reads r y m
 in_place_reads m y r h kept =
     let (opens, is) = reading-of m r h in
     rw is (reader-reads m y opens kept)
 
-pub same_reads : (m : List ℕ) (r : Reader) → reading m ≡ Reading.Ready r → Reads r m m
+pub same_reads : (m : List ℕ) (r : Reader) → reading m ≡ Ok r → Reads r m m
 same_reads m r h = in_place_reads m m r h (in-place-same m)
 
 -- a name's id serves as the name
-pub id-looks : (m : List ℕ) → verdict m ≡ 0 → (frame id : ℕ) (name : List ℕ) → ident_in (names_of m) name ≡ Ident.Is id →
+pub id-looks : (m : List ℕ) → verdict m ≡ 0 → (frame id : ℕ) (name : List ℕ) → ident_in (names_of m) name ≡ Ok id →
     counted (frames_of (entries_of m)) (length (names_of m)) frame id (find_entry frame id (entries_of m)) ≡ lookup m frame name
 id-looks m opens frame id name h = go (dec_lt frame (frames_of (entries_of m))) ∙ sym (opened-lookup m opens frame name)
   where

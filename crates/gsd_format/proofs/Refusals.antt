@@ -1,12 +1,16 @@
 -- Laws of refusals: a chain refuses nothing exactly when none of its tests does.
 use Prim.Native.Nat.{ℕ, zero, suc, ◌≤◌, ◌<◌}
-use mathlib.Core.Path.{◌≡◌, refl, sym, ◌∙◌}
+use mathlib.Core.Path.{◌≡◌, refl, sym, ◌∙◌, ap}
 use mathlib.Core.Bool.{Bool, true, false, not, true≢false, ◌&&◌, ◌||◌}
-use mathlib.Core.List.{List}
+use mathlib.Core.List.{List, [], ◌∷◌}
+use lib.ListN.{get_or}
 use native.Mathlib.Decide.{dec_lt}
 use native.Mathlib.Omega.{arith}
 use lib.Dec.{ltb, eqb}
 use borrow.Author.Tests.{ltb-false, eqb-true, not-false, lt-ltb, le-ltb, eq-eqb, ne_eqb}
+use Rattle.std.specs.Prelude.{Result, Ok, Err, IsErrAnd}
+use Rattle.gsd_format.specs.declared.refusal.Refusal.{Refusal}
+use Rattle.gsd_format.specs.Answers.{number_of, numbered, refusal_number, refused}
 use Rattle.gsd_format.specs.Refusals.{◌⇒◌, ◌▹◌, accepted}
 
 pub both : (a b : ℕ) → a ▹ b ≡ 0 → (a ≡ 0) × (b ≡ 0)
@@ -153,3 +157,160 @@ same_test a b c d f g = go (dec_lt a b) (dec_lt c d)
     go (yes h) k = lt-ltb a b h ∙ sym (lt-ltb c d (f h))
     go (no h) (yes k) = absurd (h (g k))
     go (no h) (no k) = le-ltb a b (omega arith) ∙ sym (le-ltb c d (omega arith))
+
+-- No refusal has the number 0, which stands for none
+pub refusal-some : (r : Refusal) → 0 < refusal_number r
+refusal-some Refusal.ShortImage = omega arith
+refusal-some Refusal.LongImage = omega arith
+refusal-some Refusal.WrongMagic = omega arith
+refusal-some Refusal.WrongVersion = omega arith
+refusal-some Refusal.UnclosedText = omega arith
+refusal-some Refusal.IndexOutside = omega arith
+refusal-some Refusal.NamesOutside = omega arith
+refusal-some Refusal.BlocksOverlap = omega arith
+refusal-some Refusal.UnclosedName = omega arith
+refusal-some Refusal.ManyNames = omega arith
+refusal-some Refusal.EqualNames = omega arith
+refusal-some Refusal.LowLocation = omega arith
+refusal-some Refusal.UnknownType = omega arith
+refusal-some Refusal.UnknownId = omega arith
+refusal-some Refusal.FrameOrder = omega arith
+refusal-some Refusal.ChunkOutside = omega arith
+refusal-some Refusal.ChunkInBlock = omega arith
+refusal-some Refusal.LargeFrame = omega arith
+refusal-some Refusal.OldImage = omega arith
+refusal-some Refusal.UnalignedBlock = omega arith
+refusal-some Refusal.RowCount = omega arith
+refusal-some Refusal.ShortTable = omega arith
+refusal-some Refusal.BadRow = omega arith
+refusal-some Refusal.SheetLength = omega arith
+refusal-some Refusal.ZeroInName = omega arith
+refusal-some Refusal.NameTwice = omega arith
+refusal-some Refusal.NamesFull = omega arith
+refusal-some Refusal.NoRoom = omega arith
+refusal-some Refusal.NanInSheet = omega arith
+refusal-some Refusal.FramesFull = omega arith
+refusal-some Refusal.NotExpected = omega arith
+refusal-some Refusal.NotFitting = omega arith
+refusal-some Refusal.NoFrame = omega arith
+refusal-some Refusal.NoName = omega arith
+refusal-some Refusal.NoChunk = omega arith
+refusal-some Refusal.NoElement = omega arith
+refusal-some Refusal.NoNth = omega arith
+refusal-some Refusal.LargeBlock = omega arith
+refusal-some Refusal.BadText = omega arith
+refusal-some Refusal.ShortForBlocks = omega arith
+refusal-some Refusal.NotFloats = omega arith
+refusal-some Refusal.NoRows = omega arith
+refusal-some Refusal.NanInChunk = omega arith
+refusal-some Refusal.NotFinite = omega arith
+refusal-some Refusal.FileLength = omega arith
+refusal-some Refusal.RawArrayShort = omega arith
+refusal-some Refusal.RawArrayMagic = omega arith
+refusal-some Refusal.RawArrayFlags = omega arith
+refusal-some Refusal.RawArrayType = omega arith
+refusal-some Refusal.RawArrayDimensions = omega arith
+refusal-some Refusal.RawArrayData = omega arith
+refusal-some Refusal.RawArrayColumns = omega arith
+refusal-some Refusal.RawArrayLength = omega arith
+refusal-some Refusal.RawArrayName = omega arith
+refusal-some Refusal.RawArraySheet = omega arith
+
+-- a chain's first refusal is the chain's
+pub first-refused : (r : Refusal) (a b : ℕ) → refusal_number r ≡ a → refusal_number r ≡ a ▹ b
+unfolding ◌▹◌
+first-refused r zero b h = absurd (omega (arith, h, refusal-some r))
+first-refused r (suc a) b h = h
+
+-- a refusal that a `?` passes on keeps its number
+pub kept : {A : Type 0} (r : Result A Refusal) (why : Refusal) → IsErrAnd r (λ e. e ≡ why) → refused r ≡ refusal_number why
+kept (Ok x) why h = absurd h
+kept (Err e) why h = ap refusal_number h
+
+-- the refusal of a number
+named : List Refusal
+named =
+    Refusal.ShortImage ∷ Refusal.ShortImage ∷ Refusal.LongImage ∷ Refusal.WrongMagic ∷ Refusal.WrongVersion ∷
+    Refusal.UnclosedText ∷ Refusal.IndexOutside ∷ Refusal.NamesOutside ∷ Refusal.BlocksOverlap ∷ Refusal.UnclosedName ∷
+    Refusal.ManyNames ∷ Refusal.EqualNames ∷ Refusal.LowLocation ∷ Refusal.UnknownType ∷ Refusal.UnknownId ∷
+    Refusal.FrameOrder ∷ Refusal.ChunkOutside ∷ Refusal.ChunkInBlock ∷ Refusal.LargeFrame ∷ Refusal.ShortImage ∷
+    Refusal.OldImage ∷ Refusal.UnalignedBlock ∷ Refusal.RowCount ∷ Refusal.ShortTable ∷ Refusal.BadRow ∷
+    Refusal.SheetLength ∷ Refusal.ZeroInName ∷ Refusal.NameTwice ∷ Refusal.NamesFull ∷ Refusal.NoRoom ∷
+    Refusal.NanInSheet ∷ Refusal.FramesFull ∷ Refusal.NotExpected ∷ Refusal.NotFitting ∷ Refusal.ShortImage ∷
+    Refusal.ShortImage ∷ Refusal.ShortImage ∷ Refusal.ShortImage ∷ Refusal.ShortImage ∷ Refusal.ShortImage ∷
+    Refusal.NoFrame ∷ Refusal.NoName ∷ Refusal.NoChunk ∷ Refusal.NoElement ∷ Refusal.NoNth ∷
+    Refusal.ShortImage ∷ Refusal.ShortImage ∷ Refusal.ShortImage ∷ Refusal.ShortImage ∷ Refusal.ShortImage ∷
+    Refusal.LargeBlock ∷ Refusal.BadText ∷ Refusal.ShortForBlocks ∷ Refusal.ShortImage ∷ Refusal.ShortImage ∷
+    Refusal.ShortImage ∷ Refusal.ShortImage ∷ Refusal.ShortImage ∷ Refusal.ShortImage ∷ Refusal.ShortImage ∷
+    Refusal.NotFloats ∷ Refusal.NoRows ∷ Refusal.NanInChunk ∷ Refusal.NotFinite ∷ Refusal.FileLength ∷
+    Refusal.ShortImage ∷ Refusal.ShortImage ∷ Refusal.ShortImage ∷ Refusal.ShortImage ∷ Refusal.ShortImage ∷
+    Refusal.RawArrayShort ∷ Refusal.RawArrayMagic ∷ Refusal.RawArrayFlags ∷ Refusal.RawArrayType ∷ Refusal.RawArrayDimensions ∷
+    Refusal.RawArrayData ∷ Refusal.RawArrayColumns ∷ Refusal.RawArrayLength ∷ Refusal.RawArrayName ∷ Refusal.RawArraySheet ∷ []
+
+named-again : (r : Refusal) → get_or named (refusal_number r) Refusal.ShortImage ≡ r
+unfolding named
+named-again Refusal.ShortImage = refl
+named-again Refusal.LongImage = refl
+named-again Refusal.WrongMagic = refl
+named-again Refusal.WrongVersion = refl
+named-again Refusal.UnclosedText = refl
+named-again Refusal.IndexOutside = refl
+named-again Refusal.NamesOutside = refl
+named-again Refusal.BlocksOverlap = refl
+named-again Refusal.UnclosedName = refl
+named-again Refusal.ManyNames = refl
+named-again Refusal.EqualNames = refl
+named-again Refusal.LowLocation = refl
+named-again Refusal.UnknownType = refl
+named-again Refusal.UnknownId = refl
+named-again Refusal.FrameOrder = refl
+named-again Refusal.ChunkOutside = refl
+named-again Refusal.ChunkInBlock = refl
+named-again Refusal.LargeFrame = refl
+named-again Refusal.OldImage = refl
+named-again Refusal.UnalignedBlock = refl
+named-again Refusal.RowCount = refl
+named-again Refusal.ShortTable = refl
+named-again Refusal.BadRow = refl
+named-again Refusal.SheetLength = refl
+named-again Refusal.ZeroInName = refl
+named-again Refusal.NameTwice = refl
+named-again Refusal.NamesFull = refl
+named-again Refusal.NoRoom = refl
+named-again Refusal.NanInSheet = refl
+named-again Refusal.FramesFull = refl
+named-again Refusal.NotExpected = refl
+named-again Refusal.NotFitting = refl
+named-again Refusal.NoFrame = refl
+named-again Refusal.NoName = refl
+named-again Refusal.NoChunk = refl
+named-again Refusal.NoElement = refl
+named-again Refusal.NoNth = refl
+named-again Refusal.LargeBlock = refl
+named-again Refusal.BadText = refl
+named-again Refusal.ShortForBlocks = refl
+named-again Refusal.NotFloats = refl
+named-again Refusal.NoRows = refl
+named-again Refusal.NanInChunk = refl
+named-again Refusal.NotFinite = refl
+named-again Refusal.FileLength = refl
+named-again Refusal.RawArrayShort = refl
+named-again Refusal.RawArrayMagic = refl
+named-again Refusal.RawArrayFlags = refl
+named-again Refusal.RawArrayType = refl
+named-again Refusal.RawArrayDimensions = refl
+named-again Refusal.RawArrayData = refl
+named-again Refusal.RawArrayColumns = refl
+named-again Refusal.RawArrayLength = refl
+named-again Refusal.RawArrayName = refl
+named-again Refusal.RawArraySheet = refl
+
+-- no two have one number, so an answer is known by `numbered`
+pub refusal-one : (r s : Refusal) → refusal_number r ≡ refusal_number s → r ≡ s
+refusal-one r s e = sym (named-again r) ∙ ap (λ n. get_or named n Refusal.ShortImage) e ∙ named-again s
+
+pub numbered-one : {A : Type 0} (a b : Result A Refusal) → numbered a ≡ numbered b → a ≡ b
+numbered-one (Ok x) (Ok y) e = cc
+numbered-one (Ok x) (Err s) e = absurd (cc)
+numbered-one (Err r) (Ok y) e = absurd (cc)
+numbered-one {A} (Err r) (Err s) e = ap Err (refusal-one r s (ap number_of e))

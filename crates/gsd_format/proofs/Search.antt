@@ -1,5 +1,6 @@
 -- Laws of the search: how many entries its halving and its walk probe and which, where they end, and that in a list as 15
 -- leaves it the search finds what the list has.
+use Rattle.std.specs.Prelude.{Ok, Err}
 use Prim.Native.Nat.{ℕ, zero, suc, ◌+◌, ◌*◌, ◌-◌, ◌/◌, ◌^◌, ◌≤◌, ◌<◌}
 use mathlib.Core.Path.{◌≡◌, refl, sym, ◌∙◌, ap}
 use mathlib.Core.Logic.{inl, inr}
@@ -13,7 +14,6 @@ use lib.Seq.{get_or-take, get_or-drop}
 use lib.Ieee.Digits.{size-lt}
 use borrow.Author.Tests.{lt-ltb, le-ltb, eq-eqb, ne_eqb}
 use Rattle.gsd_format.specs.declared.Entry.{Entry}
-use Rattle.gsd_format.specs.declared.Listed.{Listed}
 use Rattle.gsd_format.specs.Header.{v10}
 use Rattle.gsd_format.specs.Entries.{key_of, key}
 use Rattle.gsd_format.specs.Lookup.{none, find_entry}
@@ -164,12 +164,12 @@ module _ (es : List Entry) (least : ℕ) where
 
 module _ (frame id : ℕ) where
   module _ (at : ℕ) where
-    pub walk_end_lem : walk frame id at [] ≡ stopped [] (Listed.Refused 42)
+    pub walk_end_lem : walk frame id at [] ≡ stopped [] (Err 42)
     unfolding walk
     walk_end_lem = refl
 
     module _ (e : Entry) (es : List Entry) where
-      pub walk_here : e.frame ≡ frame → e.id ≡ id → walk frame id at (e ∷ es) ≡ stopped (at ∷ []) (Listed.Found e)
+      pub walk_here : e.frame ≡ frame → e.id ≡ id → walk frame id at (e ∷ es) ≡ stopped (at ∷ []) (Ok e)
       unfolding walk
       walk_here f d = rw (eq-eqb e.frame frame f, eq-eqb e.id id d, walk)
 
@@ -177,15 +177,15 @@ module _ (frame id : ℕ) where
       unfolding walk
       walk-on f d = rw (eq-eqb e.frame frame f, ne_eqb e.id id d, walk)
 
-      pub walk-other : (e.frame ≡ frame → ⊥) → walk frame id at (e ∷ es) ≡ stopped (at ∷ []) (Listed.Refused 42)
+      pub walk-other : (e.frame ≡ frame → ⊥) → walk frame id at (e ∷ es) ≡ stopped (at ∷ []) (Err 42)
       unfolding walk
       walk-other f = rw (ne_eqb e.frame frame f, walk)
 
   -- what holds of every walk: of its three ends, and of a step where it holds of the rest
   by-steps : (P : ℕ → List Entry → Walk → Type 0) →
-      ((at : ℕ) → P at [] (stopped [] (Listed.Refused 42))) →
-      ((at : ℕ) (e : Entry) (es : List Entry) → e.frame ≡ frame → e.id ≡ id → P at (e ∷ es) (stopped (at ∷ []) (Listed.Found e))) →
-      ((at : ℕ) (e : Entry) (es : List Entry) → (e.frame ≡ frame → ⊥) → P at (e ∷ es) (stopped (at ∷ []) (Listed.Refused 42))) →
+      ((at : ℕ) → P at [] (stopped [] (Err 42))) →
+      ((at : ℕ) (e : Entry) (es : List Entry) → e.frame ≡ frame → e.id ≡ id → P at (e ∷ es) (stopped (at ∷ []) (Ok e))) →
+      ((at : ℕ) (e : Entry) (es : List Entry) → (e.frame ≡ frame → ⊥) → P at (e ∷ es) (stopped (at ∷ []) (Err 42))) →
       ((at : ℕ) (e : Entry) (es : List Entry) (w : Walk) → e.frame ≡ frame → (e.id ≡ id → ⊥) → P (at + 1) es w → P at (e ∷ es) (stepping at w)) →
       (es : List Entry) (at : ℕ) → P at es (walk frame id at es)
   by-steps P end here other on [] at = rw (walk_end_lem at) (end at)
@@ -298,7 +298,7 @@ module _ (frame id : ℕ) where
       (λ at t. sym (find-end frame id)) (λ at e es f d t. sym (find-here frame id e es f d)) other
       (λ at e es w f d r t. r (together-tail e es t) ∙ sym (find-on frame id e es (λ g. d)))
     where
-      other : (at : ℕ) (e : Entry) (es : List Entry) → (e.frame ≡ frame → ⊥) → Together (e ∷ es) → Listed.Refused 42 ≡ find_entry frame id (e ∷ es)
+      other : (at : ℕ) (e : Entry) (es : List Entry) → (e.frame ≡ frame → ⊥) → Together (e ∷ es) → Err 42 ≡ find_entry frame id (e ∷ es)
       other at e es f t = sym (find_none frame id (e ∷ es) lacks)
         where
           lacks : Lacks (e ∷ es) frame id

@@ -1,4 +1,5 @@
 -- Laws of opening: the verdict is 0 exactly when each test's fact holds, and what the tests depend on.
+use Rattle.std.specs.Prelude.{Ok, Err}
 use Prim.Native.Nat.{ℕ, zero, suc, ◌+◌, ◌*◌, ◌^◌, ◌≤◌, ◌<◌}
 use mathlib.Core.Path.{◌≡◌, refl, sym, ◌∙◌}
 use mathlib.Core.Bool.{Bool, true, false}
@@ -10,7 +11,6 @@ use lib.Seq.{get_or-take, ext_get_or}
 use borrow.Author.Tests.{ltb-false, leb-false, not-false, le-ltb, lt-leb}
 use Rattle.gsd_format.specs.declared.Entry.{Entry}
 use Rattle.gsd_format.specs.declared.Layout.{Layout}
-use Rattle.gsd_format.specs.declared.Opening.{Opening}
 use Rattle.gsd_format.specs.Bytes.{le, zero_in, Apart}
 use Rattle.gsd_format.specs.Refusals.{◌⇒◌, ◌▹◌}
 use Rattle.gsd_format.specs.Types.{known, chunk_size}
@@ -223,11 +223,11 @@ verdict-most x =
     (entries-most (entries_of x) (layout_of x) (length (names_of x)) [])))
 
 -- the answer
-pub opening-open : (x : List ℕ) → verdict x ≡ 0 → opening x ≡ Opening.Open (counts_of x)
+pub opening-open : (x : List ℕ) → verdict x ≡ 0 → opening x ≡ Ok (counts_of x)
 unfolding opening
 opening-open x h = rw (h, opening)
 
-pub opening-refused : (x : List ℕ) (number : ℕ) → verdict x ≡ suc number → opening x ≡ Opening.Refused (suc number)
+pub opening-refused : (x : List ℕ) (number : ℕ) → verdict x ≡ suc number → opening x ≡ Err (suc number)
 unfolding opening
 opening-refused x number h = rw (h, opening)
 

@@ -1,5 +1,5 @@
 -- What each call of reading answers in the paper's words: its number, test by test in their order and 0 for no refusal, and
--- the values of an answer. Contracts say both of the enum that a call answers, by the definitions of Answers.
+-- the values of an answer. Contracts say both of the `Result` that a call answers, by the definitions of Answers.
 use Rattle.std.specs.Prelude.{ℕ, zero, suc, ◌+◌, ◌*◌, List, [], ◌∷◌, Bool, true, false, not, ◌&&◌, ◌||◌, get_or, length, ltb, eqb}
 use Rattle.gsd_format.specs.declared.Entry.{Entry}
 use Rattle.gsd_format.specs.Bytes.{le}
@@ -12,7 +12,7 @@ use Rattle.gsd_format.specs.Opening.{verdict}
 use Rattle.gsd_format.specs.Lookup.{none, nowhere, chunk_part}
 use Rattle.gsd_format.specs.Search.{probed}
 use Rattle.gsd_format.specs.Elements.{element_of}
-use Rattle.gsd_format.specs.Answers.{entry_values, part_values, element_values}
+use Rattle.gsd_format.specs.Answers.{entry_values, part_values, number_values}
 
 -- a refusal has no value
 unfoldable pub unless : ℕ → List ℕ → List ℕ
@@ -89,4 +89,4 @@ bits_of img e k = le (size_of e.kind) img (e.location + k * size_of e.kind)
 abbrev pub nth_element_values : List ℕ → ℕ → List ℕ → ℕ → List ℕ
 nth_element_values img frame name k =
     let e : Entry = found_entry img frame name in
-    unless (element_test img frame name k) (element_values (element_of e.kind (bits_of img e k)))
+    unless (element_test img frame name k) (number_values (element_of e.kind (bits_of img e k)))

@@ -1,6 +1,5 @@
 -- A fresh image: header, an empty index block at 256, an empty name block at the next aligned place; and create's numbers.
-use Rattle.std.specs.Prelude.{ℕ, zero, suc, ◌+◌, ◌*◌, ◌-◌, ◌≡◌, List, ◌++◌, Bool, ◌||◌, length, drop, ltb}
-use Rattle.gsd_format.specs.declared.Opening.{Opening}
+use Rattle.std.specs.Prelude.{ℕ, zero, suc, ◌+◌, ◌*◌, ◌-◌, ◌≡◌, List, ◌++◌, Bool, ◌||◌, length, drop, ltb, Ok}
 use Rattle.gsd_format.specs.Bytes.{le, le_bytes, part, zero_in, zeros}
 use Rattle.gsd_format.specs.Refusals.{◌⇒◌, ◌▹◌}
 use Rattle.gsd_format.specs.Header.{magic, version21, header_size, greatest_length, aligned, layout_of}
@@ -91,7 +90,7 @@ created slice application schema schema_version slots segments =
 -- What a fresh image is: it opens with no frames, names and entries, its header is as asked, its blocks are empty, and between
 -- and behind them the slice is as it was. Its layout says that its length is the slice's
 pub record Fresh (slice application schema : List ℕ) (schema_version slots segments : ℕ) (img : List ℕ) : Type 0 where
-  pub opens : opening img ≡ Opening.Open (record { frames = 0; names = 0; entries = 0 })
+  pub opens : opening img ≡ Ok (record { frames = 0; names = 0; entries = 0 })
   pub layout : layout_of img ≡ record {
     len = length slice;
     version = version21;

@@ -1,9 +1,8 @@
 -- Elements: the k-th of a chunk, read by the chunk's type, with its exact bits; 43 after the lookup's numbers; NaNs.
-use Rattle.std.specs.Prelude.{ℕ, zero, suc, ◌+◌, ◌*◌, ◌-◌, ◌/◌, ◌^◌, ◌≡◌, List, Bool, true, false, ◌&&◌, ◌||◌, ltb, leb, eqb, ℤ, pos, negsuc}
+use Rattle.std.specs.Prelude.{ℕ, zero, suc, ◌+◌, ◌*◌, ◌-◌, ◌/◌, ◌^◌, ◌≡◌, List, Bool, true, false, ◌&&◌, ◌||◌, ltb, leb, eqb, ℤ, pos, negsuc, Result, Ok, Err}
 use Rattle.std.specs.Float.Ieee as Ieee
 use Rattle.gsd_format.specs.declared.Entry.{Entry}
-use Rattle.gsd_format.specs.declared.Listed.{Listed}
-use Rattle.gsd_format.specs.declared.Element.{Element}
+use Rattle.gsd_format.specs.declared.element.Number.{Number}
 use Rattle.gsd_format.specs.Bytes.{le}
 use Rattle.gsd_format.specs.Types.{size_of}
 use Rattle.gsd_format.specs.Lookup.{lookup}
@@ -13,14 +12,14 @@ unfoldable pub signed : ℕ → ℕ → ℤ
 signed w bits = elim (ltb bits (256 ^ w / 2)) [ true ↦ pos bits | false ↦ negsuc (256 ^ w - 1 - bits) ]
 
 -- types 1 to 4 and a character are unsigned, 5 to 8 signed, 9 a float, 10 a double
-unfoldable pub element_of : ℕ → ℕ → Element
+unfoldable pub element_of : ℕ → ℕ → Number
 element_of kind bits = elim (leb kind 4 || eqb kind 11) [
-  | true ↦ Element.Unsigned bits
+  | true ↦ Number.Unsigned bits
   | false ↦ elim (leb kind 8) [
-    | true ↦ Element.Signed (signed (size_of kind) bits)
+    | true ↦ Number.Signed (signed (size_of kind) bits)
     | false ↦ elim (eqb kind 9) [
-      | true ↦ Element.Single (Ieee.of_bits Ieee.binary32 bits) bits
-      | false ↦ Element.Double (Ieee.of_bits Ieee.binary64 bits) bits
+      | true ↦ Number.Single (Ieee.of_bits Ieee.binary32 bits) bits
+      | false ↦ Number.Double (Ieee.of_bits Ieee.binary64 bits) bits
     ]
   ]
 ]
@@ -39,11 +38,11 @@ any_nan kind s at zero = false
 any_nan kind s at (suc n) = any_nan kind s at n || nan_element kind (le (size_of kind) s (at + n * size_of kind))
 
 -- the k-th element of an entry's chunk
-unfoldable pub element_in : List ℕ → Entry → ℕ → Element
+unfoldable pub element_in : List ℕ → Entry → ℕ → Result Number ℕ
 element_in img e k = elim (ltb k (e.n * e.m)) [
-  | true ↦ element_of e.kind (le (size_of e.kind) img (e.location + k * size_of e.kind))
-  | false ↦ Element.Refused 43
+  | true ↦ Ok (element_of e.kind (le (size_of e.kind) img (e.location + k * size_of e.kind)))
+  | false ↦ Err 43
 ]
 
-unfoldable pub element : List ℕ → ℕ → List ℕ → ℕ → Element
-element img frame name k = elim (lookup img frame name) [ Listed.Found e ↦ element_in img e k | Listed.Refused n ↦ Element.Refused n ]
+unfoldable pub element : List ℕ → ℕ → List ℕ → ℕ → Result Number ℕ
+element img frame name k = elim (lookup img frame name) [ Ok e ↦ element_in img e k | Err n ↦ Err n ]

@@ -1,9 +1,8 @@
 -- Opening: the tests of numbers 1 to 18 in their order, and the counts answered where none applies.
-use Rattle.std.specs.Prelude.{ℕ, zero, suc, ◌+◌, ◌*◌, ◌^◌, ◌≤◌, List, [], ◌∷◌, Bool, true, false, not, ◌&&◌, ◌||◌, get_or, length, take, ltb, leb, eqb}
+use Rattle.std.specs.Prelude.{ℕ, zero, suc, ◌+◌, ◌*◌, ◌^◌, ◌≤◌, List, [], ◌∷◌, Bool, true, false, not, ◌&&◌, ◌||◌, get_or, length, take, ltb, leb, eqb, Result, Ok, Err}
 use Rattle.gsd_format.specs.declared.Entry.{Entry}
 use Rattle.gsd_format.specs.declared.Layout.{Layout}
 use Rattle.gsd_format.specs.declared.Counts.{Counts}
-use Rattle.gsd_format.specs.declared.Opening.{Opening}
 use Rattle.gsd_format.specs.Bytes.{same, zero_in, meets, Apart}
 use Rattle.gsd_format.specs.Refusals.{◌⇒◌, ◌▹◌}
 use Rattle.gsd_format.specs.Types.{known, chunk_size}
@@ -115,5 +114,5 @@ verdict img =
 unfoldable pub counts_of : List ℕ → Counts
 counts_of img = record { frames = frames_of (entries_of img); names = length (names_of img); entries = length (entries_of img) }
 
-unfoldable pub opening : List ℕ → Opening
-opening img = elim (verdict img) [ zero ↦ Opening.Open (counts_of img) | suc k ↦ Opening.Refused (suc k) ]
+unfoldable pub opening : List ℕ → Result Counts ℕ
+opening img = elim (verdict img) [ zero ↦ Ok (counts_of img) | suc k ↦ Err (suc k) ]

@@ -1,8 +1,7 @@
 -- What is promised of the entries that a lookup probes: the one it finds is among them, or else those where it would stand and
 -- those next to its place; they are few; and without a search there is none.
-use Rattle.std.specs.Prelude.{ℕ, suc, ◌+◌, ◌-◌, ◌≤◌, ◌<◌, ◌≡◌, true, false, List, [], ◌∷◌, get_or, length, eqb}
+use Rattle.std.specs.Prelude.{ℕ, suc, ◌+◌, ◌-◌, ◌≤◌, ◌<◌, ◌≡◌, true, false, List, [], ◌∷◌, get_or, length, eqb, Ok, Err}
 use Rattle.gsd_format.specs.declared.Entry.{Entry}
-use Rattle.gsd_format.specs.declared.Listed.{Listed}
 use Rattle.gsd_format.specs.Header.{v10, layout_of}
 use Rattle.gsd_format.specs.Names.{names_of, index_of}
 use Rattle.gsd_format.specs.Entries.{key_of, key, entries_of}
@@ -39,9 +38,9 @@ pub record Belongs (version frame id : ℕ) (es : List Entry) (p k : ℕ) : Type
 
 pub record Probes (img : List ℕ) (frame : ℕ) (name : List ℕ) : Type 0 where
   -- the entry found is probed
-  pub found : (e : Entry) → lookup img frame name ≡ Listed.Found e → (i : ℕ) × (nth_entry img i ≡ Listed.Found e) × Among i (probes_of img frame name)
+  pub found : (e : Entry) → lookup img frame name ≡ Ok e → (i : ℕ) × (nth_entry img i ≡ Ok e) × Among i (probes_of img frame name)
   -- where there is none, those are that it would stand among, and those next to them
-  pub missing : lookup img frame name ≡ Listed.Refused 42 →
+  pub missing : lookup img frame name ≡ Err 42 →
       (p : ℕ) × Belongs (layout_of img).version frame (index_of name (names_of img)) (entries_of img) p (spread (layout_of img).version frame (entries_of img))
       × Around p (spread (layout_of img).version frame (entries_of img)) (length (entries_of img)) (probes_of img frame name)
   -- only listed entries are, and at most one more than their number has binary digits; in 1.0 as many more as the frame has entries

@@ -1,14 +1,10 @@
 -- A reader: an opened image is read by it without its tests. Any numbers may be offered as a reader of any image: 33 where the two
 -- do not fit, and else every answer is one of these definitions. `Reads` says what a reader promises that opening gave.
-use Rattle.std.specs.Prelude.{ℕ, zero, suc, ◌+◌, ◌*◌, ◌≤◌, ◌<◌, ◌≡◌, List, [], ◌∷◌, map, Bool, true, false, ◌&&◌, get_or, length, take, ltb, leb, eqb}
+use Rattle.std.specs.Prelude.{ℕ, zero, suc, ◌+◌, ◌*◌, ◌≤◌, ◌<◌, ◌≡◌, List, [], ◌∷◌, map, Bool, true, false, ◌&&◌, get_or, length, take, ltb, leb, eqb, Result, Ok, Err}
 use Rattle.gsd_format.specs.declared.Entry.{Entry}
 use Rattle.gsd_format.specs.declared.Part.{Part}
-use Rattle.gsd_format.specs.declared.Listed.{Listed}
-use Rattle.gsd_format.specs.declared.Place.{Place}
-use Rattle.gsd_format.specs.declared.Element.{Element}
+use Rattle.gsd_format.specs.declared.element.Number.{Number}
 use Rattle.gsd_format.specs.declared.Reader.{Reader}
-use Rattle.gsd_format.specs.declared.Reading.{Reading}
-use Rattle.gsd_format.specs.declared.Ident.{Ident}
 use Rattle.gsd_format.specs.Header.{supported, v10, greatest_length, slot_size, layout_of}
 use Rattle.gsd_format.specs.Types.{known, chunk_size}
 use Rattle.gsd_format.specs.Names.{names_of, bytes_of, list_size, list_parts, index_of}
@@ -31,8 +27,8 @@ reader_of img = record {
 }
 
 -- opening gives it, with the opening's number
-unfoldable pub reading : List ℕ → Reading
-reading img = elim (verdict img) [ zero ↦ Reading.Ready (reader_of img) | suc k ↦ Reading.Refused (suc k) ]
+unfoldable pub reading : List ℕ → Result Reader ℕ
+reading img = elim (verdict img) [ zero ↦ Ok (reader_of img) | suc k ↦ Err (suc k) ]
 
 -- the slice is no longer than an image may be, the version is known, there are no more names than there may be, and the slots and
 -- the list of names lie in the slice
@@ -53,49 +49,49 @@ abbrev pub names_by : Reader → List ℕ → List (List ℕ)
 names_by r img = map (bytes_of img) (parts_by r img)
 
 -- the n-th entry and the n-th name
-unfoldable pub entry_by : Reader → List ℕ → ℕ → Listed
+unfoldable pub entry_by : Reader → List ℕ → ℕ → Result Entry ℕ
 entry_by r img n = elim (fits r img) [
-  | true ↦ elim (ltb n r.entries) [ true ↦ Listed.Found (entry_at img (r.index + slot_size * n)) | false ↦ Listed.Refused 44 ]
-  | false ↦ Listed.Refused 33
+  | true ↦ elim (ltb n r.entries) [ true ↦ Ok (entry_at img (r.index + slot_size * n)) | false ↦ Err 44 ]
+  | false ↦ Err 33
 ]
 
-unfoldable pub nth_part : List Part → ℕ → Place
-nth_part ps n = elim (ltb n (length ps)) [ true ↦ Place.At (get_or ps n nowhere) | false ↦ Place.Refused 44 ]
+unfoldable pub nth_part : List Part → ℕ → Result Part ℕ
+nth_part ps n = elim (ltb n (length ps)) [ true ↦ Ok (get_or ps n nowhere) | false ↦ Err 44 ]
 
-unfoldable pub name_by : Reader → List ℕ → ℕ → Place
-name_by r img n = elim (fits r img) [ true ↦ nth_part (parts_by r img) n | false ↦ Place.Refused 33 ]
+unfoldable pub name_by : Reader → List ℕ → ℕ → Result Part ℕ
+name_by r img n = elim (fits r img) [ true ↦ nth_part (parts_by r img) n | false ↦ Err 33 ]
 
 -- the id of a name
-unfoldable pub ident_in : List (List ℕ) → List ℕ → Ident
-ident_in ns name = elim (ltb (index_of name ns) (length ns)) [ true ↦ Ident.Is (index_of name ns) | false ↦ Ident.Refused 41 ]
+unfoldable pub ident_in : List (List ℕ) → List ℕ → Result ℕ ℕ
+ident_in ns name = elim (ltb (index_of name ns) (length ns)) [ true ↦ Ok (index_of name ns) | false ↦ Err 41 ]
 
-unfoldable pub id_by : Reader → List ℕ → List ℕ → Ident
-id_by r img name = elim (fits r img) [ true ↦ ident_in (names_by r img) name | false ↦ Ident.Refused 33 ]
+unfoldable pub id_by : Reader → List ℕ → List ℕ → Result ℕ ℕ
+id_by r img name = elim (fits r img) [ true ↦ ident_in (names_by r img) name | false ↦ Err 33 ]
 
 -- an answer for a frame and an id, each below a count
-unfoldable pub counted : ℕ → ℕ → ℕ → ℕ → Listed → Listed
+unfoldable pub counted : ℕ → ℕ → ℕ → ℕ → Result Entry ℕ → Result Entry ℕ
 counted frames names frame id answer = elim (ltb frame frames) [
-  | true ↦ elim (ltb id names) [ true ↦ answer | false ↦ Listed.Refused 41 ]
-  | false ↦ Listed.Refused 40
+  | true ↦ elim (ltb id names) [ true ↦ answer | false ↦ Err 41 ]
+  | false ↦ Err 40
 ]
 
 -- The entry of a frame and an id. It is what the search finds, over slots that may be in any order: among listed entries that is
 -- the one with this frame and id
-unfoldable pub find_by : Reader → List ℕ → ℕ → ℕ → Listed
+unfoldable pub find_by : Reader → List ℕ → ℕ → ℕ → Result Entry ℕ
 find_by r img frame id = elim (fits r img) [
   | true ↦ counted r.frames r.names frame id (searched r.version frame id (entries_by r img))
-  | false ↦ Listed.Refused 33
+  | false ↦ Err 33
 ]
 
 -- and of a frame and a name
-unfoldable pub found_for : Reader → List ℕ → ℕ → Ident → Listed
-found_for r img frame (Ident.Is id) = searched r.version frame id (entries_by r img)
-found_for r img frame (Ident.Refused n) = Listed.Refused n
+unfoldable pub found_for : Reader → List ℕ → ℕ → Result ℕ ℕ → Result Entry ℕ
+found_for r img frame (Ok id) = searched r.version frame id (entries_by r img)
+found_for r img frame (Err n) = Err n
 
-unfoldable pub lookup_by : Reader → List ℕ → ℕ → List ℕ → Listed
+unfoldable pub lookup_by : Reader → List ℕ → ℕ → List ℕ → Result Entry ℕ
 lookup_by r img frame name = elim (fits r img) [
-  | true ↦ elim (ltb frame r.frames) [ true ↦ found_for r img frame (ident_in (names_by r img) name) | false ↦ Listed.Refused 40 ]
-  | false ↦ Listed.Refused 33
+  | true ↦ elim (ltb frame r.frames) [ true ↦ found_for r img frame (ident_in (names_by r img) name) | false ↦ Err 40 ]
+  | false ↦ Err 33
 ]
 
 -- The entry of an id in the newest frame at or below one. The search ends behind all in whose place one with this frame and id would
@@ -104,14 +100,14 @@ unfoldable pub place_behind : ℕ → ℕ → ℕ → List Entry → ℕ
 place_behind version frame id es =
     elim (v10 version) [ true ↦ (halved version (frame + 1) 0 es).place | false ↦ (halved version frame (id + 1) es).place ]
 
-unfoldable pub last_before : ℕ → List Entry → ℕ → Listed
-last_before id es zero = Listed.Refused 42
-last_before id es (suc p) = elim (eqb (get_or es p none).id id) [ true ↦ Listed.Found (get_or es p none) | false ↦ last_before id es p ]
+unfoldable pub last_before : ℕ → List Entry → ℕ → Result Entry ℕ
+last_before id es zero = Err 42
+last_before id es (suc p) = elim (eqb (get_or es p none).id id) [ true ↦ Ok (get_or es p none) | false ↦ last_before id es p ]
 
-unfoldable pub newest_by : Reader → List ℕ → ℕ → ℕ → Listed
+unfoldable pub newest_by : Reader → List ℕ → ℕ → ℕ → Result Entry ℕ
 newest_by r img frame id = elim (fits r img) [
   | true ↦ counted r.frames r.names frame id (last_before id (entries_by r img) (place_behind r.version frame id (entries_by r img)))
-  | false ↦ Listed.Refused 33
+  | false ↦ Err 33
 ]
 
 -- the entry's type is known and its chunk lies in the image
@@ -119,28 +115,28 @@ unfoldable pub holds : Reader → List ℕ → Entry → Bool
 holds r img e = known r.version e.kind && leb (e.location + chunk_size e) (length img)
 
 -- the place of a chunk, and an element of it: the lookup's numbers, then 33
-unfoldable pub chunk_for : Reader → List ℕ → Listed → Place
-chunk_for r img (Listed.Found e) = elim (holds r img e) [ true ↦ Place.At (chunk_part e) | false ↦ Place.Refused 33 ]
-chunk_for r img (Listed.Refused n) = Place.Refused n
+unfoldable pub chunk_for : Reader → List ℕ → Result Entry ℕ → Result Part ℕ
+chunk_for r img (Ok e) = elim (holds r img e) [ true ↦ Ok (chunk_part e) | false ↦ Err 33 ]
+chunk_for r img (Err n) = Err n
 
-abbrev pub chunk_place_by : Reader → List ℕ → ℕ → List ℕ → Place
+abbrev pub chunk_place_by : Reader → List ℕ → ℕ → List ℕ → Result Part ℕ
 chunk_place_by r img frame name = chunk_for r img (lookup_by r img frame name)
 
-unfoldable pub element_for : Reader → List ℕ → Listed → ℕ → Element
-element_for r img (Listed.Found e) k = elim (holds r img e) [ true ↦ element_in img e k | false ↦ Element.Refused 33 ]
-element_for r img (Listed.Refused n) k = Element.Refused n
+unfoldable pub element_for : Reader → List ℕ → Result Entry ℕ → ℕ → Result Number ℕ
+element_for r img (Ok e) k = elim (holds r img e) [ true ↦ element_in img e k | false ↦ Err 33 ]
+element_for r img (Err n) k = Err n
 
-abbrev pub element_by : Reader → List ℕ → ℕ → List ℕ → ℕ → Element
+abbrev pub element_by : Reader → List ℕ → ℕ → List ℕ → ℕ → Result Number ℕ
 element_by r img frame name k = element_for r img (lookup_by r img frame name) k
 
 -- What a reader promises. The last of the entries with an id whose frame is at or below one
-unfoldable pub or_entry : Listed → Bool → Entry → Listed
-or_entry (Listed.Found later) is e = Listed.Found later
-or_entry (Listed.Refused n) true e = Listed.Found e
-or_entry (Listed.Refused n) false e = Listed.Refused n
+unfoldable pub or_entry : Result Entry ℕ → Bool → Entry → Result Entry ℕ
+or_entry (Ok later) is e = Ok later
+or_entry (Err n) true e = Ok e
+or_entry (Err n) false e = Err n
 
-unfoldable pub newest_entry : ℕ → ℕ → List Entry → Listed
-newest_entry frame id [] = Listed.Refused 42
+unfoldable pub newest_entry : ℕ → ℕ → List Entry → Result Entry ℕ
+newest_entry frame id [] = Err 42
 newest_entry frame id (e ∷ es) = or_entry (newest_entry frame id es) (leb e.frame frame && eqb e.id id) e
 
 -- the reader r answers on y exactly as the calls do on m; what it finds by an id is what m lists; and the chunk of each listed entry

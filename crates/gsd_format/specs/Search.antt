@@ -1,9 +1,8 @@
 -- The search of the index by halving: which entries it probes on the way to the place of a frame and an id, and what it
 -- finds from there on. A probe reads one entry; an entry that is probed twice stands in the list twice.
-use Rattle.std.specs.Prelude.{ℕ, zero, suc, ◌+◌, ◌-◌, ◌/◌, List, [], ◌∷◌, ◌++◌, true, false, get_or, length, take, drop, ltb, eqb}
+use Rattle.std.specs.Prelude.{ℕ, zero, suc, ◌+◌, ◌-◌, ◌/◌, List, [], ◌∷◌, ◌++◌, true, false, get_or, length, take, drop, ltb, eqb, Result, Ok, Err}
 use lib.Ieee.{size}
 use Rattle.gsd_format.specs.declared.Entry.{Entry}
-use Rattle.gsd_format.specs.declared.Listed.{Listed}
 use Rattle.gsd_format.specs.Header.{v10}
 use Rattle.gsd_format.specs.Entries.{id_range, key_of, key}
 use Rattle.gsd_format.specs.Lookup.{none}
@@ -48,9 +47,9 @@ halved version frame id es = halve (length es) es (key_of frame (first_id versio
 -- a walk: the numbers of the entries probed, in their order, and the answer
 pub record Walk : Type 0 where
   pub probes : List ℕ
-  pub answer : Listed
+  pub answer : Result Entry ℕ
 
-abbrev pub stopped : List ℕ → Listed → Walk
+abbrev pub stopped : List ℕ → Result Entry ℕ → Walk
 stopped probes answer = record { probes = probes; answer = answer }
 
 abbrev pub stepping : ℕ → Walk → Walk
@@ -59,10 +58,10 @@ stepping i w = record { probes = i ∷ w.probes; answer = w.answer }
 -- The entries, the first of which has the number at, are read one by one: up to the one with the frame and the id, or to the
 -- first of another frame
 unfoldable pub walk : ℕ → ℕ → ℕ → List Entry → Walk
-walk frame id at [] = stopped [] (Listed.Refused 42)
+walk frame id at [] = stopped [] (Err 42)
 walk frame id at (e ∷ es) = elim (eqb e.frame frame) [
-  | true ↦ elim (eqb e.id id) [ true ↦ stopped (at ∷ []) (Listed.Found e) | false ↦ stepping at (walk frame id (at + 1) es) ]
-  | false ↦ stopped (at ∷ []) (Listed.Refused 42)
+  | true ↦ elim (eqb e.id id) [ true ↦ stopped (at ∷ []) (Ok e) | false ↦ stepping at (walk frame id (at + 1) es) ]
+  | false ↦ stopped (at ∷ []) (Err 42)
 ]
 
 -- how far: in 2.x no entry behind the one at the place can be it
@@ -80,5 +79,5 @@ unfoldable pub probed : ℕ → ℕ → ℕ → List Entry → List ℕ
 probed version frame id es = (halved version frame id es).probes ++ (walked version frame id es).probes
 
 -- what it answers
-unfoldable pub searched : ℕ → ℕ → ℕ → List Entry → Listed
+unfoldable pub searched : ℕ → ℕ → ℕ → List Entry → Result Entry ℕ
 searched version frame id es = (walked version frame id es).answer

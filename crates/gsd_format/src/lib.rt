@@ -2,6 +2,12 @@
 // description: bytes, header, names, entries, opening, lookup, elements, readers, fresh images, the listing.
 #![tactic(auto)]
 
+mod element;
+mod refusal;
+
+pub use element::{Element, Number};
+pub use refusal::Refusal;
+
 // An index entry: all 32 bytes of it. The format's N and M are n and m, its type is kind. The location is an i64 in
 // the file; in a listed entry of an image that opens it is never negative.
 #[derive(Clone, Copy)]
@@ -41,42 +47,11 @@ pub struct Counts {
     pub entries: u64,
 }
 
-// What opening answers. A refusal carries its number, and so in every answer below.
-#[derive(Clone, Copy)]
-pub enum Opening {
-    Open(Counts),
-    Refused(u64),
-}
-
-// What the lookup and the n-th entry answer.
-#[derive(Clone, Copy)]
-pub enum Listed {
-    Found(Entry),
-    Refused(u64),
-}
-
 // What the search answers: the lookup's answer, and how many entries it probed.
 #[derive(Clone, Copy)]
 pub struct Searched {
-    pub answer: Listed,
+    pub answer: Result<Entry, Refusal>,
     pub probes: u64,
-}
-
-// What the n-th name and the place of a chunk answer.
-#[derive(Clone, Copy)]
-pub enum Place {
-    At(Part),
-    Refused(u64),
-}
-
-// An element of a chunk. A float comes with its bits: a NaN's own bits cannot be had from a float.
-#[derive(Clone, Copy)]
-pub enum Element {
-    Unsigned(u64),
-    Signed(i64),
-    Single { value: f32, bits: u32 },
-    Double { value: f64, bits: u64 },
-    Refused(u64),
 }
 
 // What an opened image is read by without its tests: its counts, where its entries and its names begin, how many bytes the
@@ -90,18 +65,4 @@ pub struct Reader {
     pub namelist: u64,
     pub size: u64,
     pub version: u64,
-}
-
-// What opening a reader answers.
-#[derive(Clone, Copy)]
-pub enum Reading {
-    Ready(Reader),
-    Refused(u64),
-}
-
-// What asking for a name's id answers.
-#[derive(Clone, Copy)]
-pub enum Ident {
-    Is(u64),
-    Refused(u64),
 }

@@ -5,7 +5,7 @@
 ghost use Rattle.std.specs.Prelude.{◌≡◌, ◌+◌, ◌≤◌, length};
 ghost use Rattle.gsd_format.specs.Bytes.{stored};
 ghost use Rattle.gsd_format.specs.Header.{application_place, text_size};
-ghost use Rattle.gsd_format.specs.Create.{most_units, longest_text, filled, fresh_namelist, fresh_namelist_end, fresh};
+ghost use Rattle.gsd_format.specs.Create.{most_units, longest_text, filled, fresh_index_end, fresh_namelist, fresh_namelist_end, fresh};
 ghost use Rattle.gsd_fresh.specs.Numbers.{numbers};
 
 use gsd_bytes::{
@@ -14,27 +14,18 @@ use gsd_bytes::{
     VERSION_2_1, VERSION_PLACE, fill_zero, put_half, put_magic, put_text, put_word, rounded,
 };
 
-// Where the name block starts.
-pub fn namelist_place(slots: u64) -> u64
-    requires { slots ≤ most_units }
-    ensures { result ≡ fresh_namelist slots }
-{
-    rounded(HEADER_SIZE + SLOT_SIZE * slots)
-}
-
-// The header up to its texts.
-fn put_numbers(s: &mut [u8], schema_version: u32, slots: u64, segments: u64)
-    requires inside { application_place ≤ length s.old }
-    requires slots { slots ≤ most_units }
-    ensures { s.new ≡ stored s.old 0 (numbers schema_version slots segments) }
-{
-    put_magic(s);
-    put_word(s, INDEX_PLACE, HEADER_SIZE);
-    put_word(s, SLOTS_PLACE, slots);
-    put_word(s, NAMELIST_PLACE, namelist_place(slots));
-    put_word(s, SEGMENTS_PLACE, segments);
-    put_half(s, SCHEMA_VERSION_PLACE, schema_version as u64);
-    put_half(s, VERSION_PLACE, VERSION_2_1);
+// A fresh image as it is asked for: its texts are short enough, and its blocks small enough.
+#[derive(Clone, Copy)]
+pub struct Request<'a> {
+    pub application: &'a [u8],
+    pub schema: &'a [u8],
+    pub schema_version: u32,
+    pub slots: u64,
+    pub segments: u64,
+    pub ghost short_application: { length application.now ≤ longest_text },
+    pub ghost short_schema: { length schema.now ≤ longest_text },
+    pub ghost few_slots: { slots ≤ most_units },
+    pub ghost few_segments: { segments ≤ most_units },
 }
 
 // A text of the header in its 64 bytes.
@@ -47,35 +38,56 @@ fn put_filled(s: &mut [u8], at: usize, t: &[u8])
     fill_zero(s, at + t.len(), at + TEXT_SIZE);
 }
 
-// Header and both blocks. Bytes between the blocks and behind them stay.
-pub fn lay_out(
-    image: &mut [u8],
-    application: &[u8],
-    schema: &[u8],
-    schema_version: u32,
-    slots: u64,
-    segments: u64,
-)
-    requires application { length application.now ≤ longest_text }
-    requires schema { length schema.now ≤ longest_text }
-    requires slots { slots ≤ most_units }
-    requires segments { segments ≤ most_units }
-    requires fits { fresh_namelist_end slots segments ≤ length image.old }
-    ensures { image.new
-        ≡ fresh image.old application.now schema.now schema_version slots segments }
-{
-    put_numbers(image, schema_version, slots, segments);
-    put_filled(image, APPLICATION_PLACE, application);
-    put_filled(image, SCHEMA_PLACE, schema);
-    let names = namelist_place(slots);
-    fill_zero(
-        image,
-        RESERVED_PLACE,
-        (HEADER_SIZE + SLOT_SIZE * slots) as usize,
-    );
-    fill_zero(
-        image,
-        names as usize,
-        (names + SEGMENT_SIZE * segments) as usize,
-    );
+impl Request<'_> {
+    // Where the index block ends.
+    fn index_end(&self) -> u64
+        ensures { result ≡ fresh_index_end self.now.slots }
+    {
+        HEADER_SIZE + SLOT_SIZE * self.slots
+    }
+
+    // Where the name block starts,
+    fn namelist(&self) -> u64
+        ensures { result ≡ fresh_namelist self.now.slots }
+    {
+        rounded(self.index_end())
+    }
+
+    // and where it ends: the image needs no byte behind it.
+    pub fn namelist_end(&self) -> u64
+        ensures { result ≡ fresh_namelist_end self.now.slots self.now.segments }
+    {
+        self.namelist() + SEGMENT_SIZE * self.segments
+    }
+
+    // The header up to its texts.
+    fn put_numbers(&self, s: &mut [u8])
+        requires { application_place ≤ length s.old }
+        ensures { s.new ≡ stored s.old 0 (numbers self.now.schema_version self.now.slots self.now.segments) }
+    {
+        put_magic(s);
+        put_word(s, INDEX_PLACE, HEADER_SIZE);
+        put_word(s, SLOTS_PLACE, self.slots);
+        put_word(s, NAMELIST_PLACE, self.namelist());
+        put_word(s, SEGMENTS_PLACE, self.segments);
+        put_half(s, SCHEMA_VERSION_PLACE, self.schema_version as u64);
+        put_half(s, VERSION_PLACE, VERSION_2_1);
+    }
+
+    // Header and both blocks. Bytes between the blocks and behind them stay.
+    pub fn lay_out(&self, image: &mut [u8])
+        requires { fresh_namelist_end self.now.slots self.now.segments ≤ length image.old }
+        ensures { image.new
+            ≡ fresh image.old self.now.application.now self.now.schema.now self.now.schema_version self.now.slots self.now.segments }
+    {
+        self.put_numbers(image);
+        put_filled(image, APPLICATION_PLACE, self.application);
+        put_filled(image, SCHEMA_PLACE, self.schema);
+        fill_zero(image, RESERVED_PLACE, self.index_end() as usize);
+        fill_zero(
+            image,
+            self.namelist() as usize,
+            self.namelist_end() as usize,
+        );
+    }
 }

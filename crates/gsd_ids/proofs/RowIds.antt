@@ -1,13 +1,15 @@
 -- Laws of the rows' ids and new names, found row by row.
 use Prim.Native.Nat.{ℕ, ◌+◌, ◌-◌, ◌≤◌, ◌<◌}
 use mathlib.Core.Path.{◌≡◌, refl, sym, ◌∙◌, ap}
-use mathlib.Core.Bool.{false}
+use mathlib.Core.Bool.{Bool}
 use mathlib.Core.List.{List, [], ◌∷◌, ◌++◌, append-nil}
 use native.Mathlib.Nat.{sub-zero}
 use native.Mathlib.Numerals.{add-one}
 use native.Mathlib.Omega.{arith}
 use lib.ListN.{length, get_or, set, take, length-set, length-append, get_or-append, get_or-map}
-use lib.Seq.{get_or-set_same, get_or-set_other, get_or_at, get_or-take, take_all, length-take-le, ext_get_or}
+use lib.Seq.{get_or-set_same, get_or-set_other, get_or_at, get_or-take, get_or-drop, take_all, length-paste}
+use borrow.Rule.Slice.PartMut.{put_mid}
+use Rattle.std.proofs.lemmas.Slice.{put_mid-paste, take-put_mid_below, drop-put_mid, between-put_mid}
 use borrow.Author.Count.{below_more}
 use Rattle.gsd_format.specs.Bytes.{part}
 use Rattle.gsd_format.specs.Names.{flat, index_of, Has, Lacks, Distinct}
@@ -21,12 +23,12 @@ use Rattle.gsd_stores.proofs.Sheet.{rows-count}
 use Rattle.gsd_stores.proofs.Rows.{new-listed, new-unlisted, new-next, new-id, new_is, nothing}
 use Rattle.gsd_names.specs.NameLists.{names_in}
 use Rattle.gsd_names.proofs.NameLists.{names-all, names-long}
-use Rattle.gsd_sheet.specs.Columns.{name_from, data_from, slot_pair, new_row, Filled}
+use Rattle.gsd_sheet.specs.Columns.{name_from, data_from, slot_pair, new_row, Filled, Kept}
 use Rattle.gsd_sheet.specs.Rows.{sheet_names, name_of, Located}
 use Rattle.gsd_ids.specs.declared.NewNames.{NewNames}
 use Rattle.gsd_ids.specs.Order.{paired, Sorted}
-use Rattle.gsd_ids.specs.RowIds.{pair_of, RowNamed, IdsListed, PairsTaken, PairsPut, order, IdsFound}
-use Rattle.gsd_sheet.proofs.Columns.{filled_none, filled_more, filled_off, filled-to, kept-none, kept_more}
+use Rattle.gsd_ids.specs.RowIds.{pair_of, RowNamed, IdsListed, order, IdsFound}
+use Rattle.gsd_sheet.proofs.Columns.{filled_none, filled_more, filled_off}
 use Rattle.gsd_sheet.proofs.Rows.{located-room, located_end, located-name, located-length}
 
 module _ (names : List (List ℕ)) (rs : List Row) where
@@ -131,8 +133,8 @@ module _ (names : List (List ℕ)) (rs : List Row) where
         size = g.bytes ∙ ap (λ ns. length (flat ns)) all;
       }
 
-pub count-in : (img starts : List ℕ) (count : ℕ) → length (names_in false img starts count) ≡ count
-count-in img starts count = sym (ap length (names-all false img starts count)) ∙ names-long false img starts count 0 ∙ sub-zero count
+pub count-in : (v : Bool) (img starts : List ℕ) (count : ℕ) → length (names_in v img starts count) ≡ count
+count-in v img starts count = sym (ap length (names-all v img starts count)) ∙ names-long v img starts count 0 ∙ sub-zero count
 
 -- a name's bytes lie before the next name
 pub row_room : {s c : List ℕ} → Located s c → (i : ℕ) → i < row_count s →
@@ -173,66 +175,34 @@ order-at c k l = part_at c 129 64 k l
 pub order-long : (c : List ℕ) → length c ≡ 399 → length (order c) ≡ 64
 order-long c h = part_length c 129 64 (omega arith)
 
--- the pairs in an array
+-- the column is put back in order
+module _ (c ys : List ℕ) (n : ℕ) (long : length c ≡ 399) (sorted : Sorted (order c) n ys) where
+  abbrev now : List ℕ
+  now = put_mid 129 64 c ys
 
-pub taken_none : (c l : List ℕ) → length l ≡ 64 → PairsTaken c 0 l
-taken_none c l h = record { long = h; at = λ i m. absurd (omega arith) }
+  many : length ys ≡ 64
+  many = sorted.long ∙ order-long c long
 
-pub taken_more : {c l : List ℕ} {n : ℕ} → PairsTaken c n l → n < 64 → PairsTaken c (n + 1) (set l n (slot_pair c n))
-taken_more {c} {l} {n} h m = record {
-  long = length-set l n (slot_pair c n) ∙ h.long;
-  at = below_more (λ i. get_or (set l n (slot_pair c n)) i 0 ≡ slot_pair c i) n
-      (λ i k. get_or-set_other l n i (slot_pair c n) 0 (λ q. omega arith) ∙ h.at i k)
-      (get_or-set_same l n (slot_pair c n) 0 (omega (arith, h.long)));
-}
-
-pub taken-to : {c l : List ℕ} {n m : ℕ} → n ≡ m → PairsTaken c n l → PairsTaken c m l
-taken-to e h = record { long = h.long; at = λ i l. h.at i (omega arith) }
-
--- and back
-
-pub put-none : (c l : List ℕ) → PairsPut c l 0 c
-put-none c l = record { pairs = filled_none; kept = kept-none; behind = λ j. refl }
-
-pub put-more : {c l c' : List ℕ} {n : ℕ} → PairsPut c l n c' → length c ≡ 399 → n < 64 → PairsPut c l (n + 1) (set c' (129 + n) (get_or l n 0))
-put-more {c} {l} {c'} {n} h long m = record {
-  pairs = filled_more h.pairs (omega (arith, h.kept.long)) refl;
-  kept = kept_more h.kept _ _ (omega arith);
-  behind = λ j. get_or-set_other c' (129 + n) (193 + j) (get_or l n 0) 0 (λ q. omega arith) ∙ h.behind j;
-}
-
-pub put-to : {c l c' : List ℕ} {n m : ℕ} → n ≡ m → PairsPut c l n c' → PairsPut c l m c'
-put-to e h = record { pairs = filled-to e h.pairs; kept = h.kept; behind = h.behind }
-
--- what is found when they were sorted in between
-module _ {c l o c' : List ℕ} {n : ℕ} (long : length c ≡ 399) (few : n ≤ 64) (taken : PairsTaken c n l) (s : Sorted l n o) (put : PairsPut c o n c') where
-  order_is : (i : ℕ) → i < n → get_or (order c') i 0 ≡ get_or o i 0
-  order_is i m = order-at c' i (omega arith) ∙ put.pairs.at i m
-
-  long_order : length (order c') ≡ 64
-  long_order = order-long c' (put.kept.long ∙ long)
-
-  same : take n (order c') ≡ take n o
-  same =
-      let a : length (take n (order c')) ≡ n = length-take-le n (order c') (omega (arith, long_order)) in
-      let b : length (take n o) ≡ n = length-take-le n o (omega (arith, s.long, taken.long)) in
-      ext_get_or 0 (take n (order c')) (take n o) (a ∙ sym b) (λ i m.
-      get_or-take n (order c') i 0 (omega arith) ∙ order_is i (omega arith) ∙ sym (get_or-take n o i 0 (omega arith)))
-
-  sorted : Sorted l n (order c')
-  sorted = record {
-    long = long_order ∙ sym taken.long;
-    up = λ i j h m. omega (arith, order_is i (omega arith), order_is j m, s.up i j h m);
-    same = rw same s.same;
+  pub sorted-kept : Kept 129 c now
+  sorted-kept = record {
+    long = ap length (put_mid-paste 129 64 c ys ys 64 refl refl (sym many)) ∙ length-paste c 129 ys 64 (omega arith) (omega (arith, many));
+    at = λ k l. sym (get_or-take 129 now k 0 l)
+        ∙ ap (λ q. get_or q k 0) (take-put_mid_below 129 64 c ys 129 (omega arith) (omega arith)) ∙ get_or-take 129 c k 0 l;
   }
 
-  pub ids-found : (names : List (List ℕ)) (rs : List Row) (r : NewNames) → IdsListed names rs c r → n ≡ length rs → IdsFound names rs c' r
-  ids-found names rs r g all = record {
-    packed = l;
-    pairs = λ i m. taken.at i (omega arith) ∙ g.pairs.at i m;
-    long = taken.long;
-    sorted = rw all at sorted;
+  behind : (j : ℕ) → new_row now j ≡ new_row c j
+  behind j = sym (get_or-drop 193 now j 0) ∙ ap (λ q. get_or q j 0) (drop-put_mid 129 64 c ys 193 (omega arith) (omega arith) many) ∙ get_or-drop 193 c j 0
+
+  put-back : order now ≡ ys
+  put-back = between-put_mid 129 64 c ys 193 (omega arith) many
+
+  pub ids-found : (names : List (List ℕ)) (rs : List Row) (r : NewNames) → IdsListed names rs c r → n ≡ length rs → n ≤ 64 → IdsFound names rs now r
+  ids-found names rs r g all few = record {
+    packed = order c;
+    pairs = λ i m. order-at c i (omega arith) ∙ g.pairs.at i m;
+    long = order-long c long;
+    sorted = rw (put-back, sym all) sorted;
     fresh = g.fresh;
-    rows = λ j m. rw (put.behind j) (g.rows j m);
+    rows = λ j m. rw (behind j) (g.rows j m);
     size = g.size;
   }

@@ -1,14 +1,13 @@
 -- What the code finds of the rows' names: their ids, and which of them are new.
-use Rattle.std.specs.Prelude.{ℕ, ◌≤◌, ◌<◌, ◌≡◌, false, List, [], ◌++◌, length, get_or}
+use Rattle.std.specs.Prelude.{ℕ, ◌≤◌, ◌<◌, ◌≡◌, List, [], ◌++◌, length, get_or}
 use Rattle.gsd_format.specs.Bytes.{part}
 use Rattle.gsd_format.specs.Names.{flat, index_of, Distinct}
 use Rattle.gsd_format.specs.Opening.{most_names}
 use Rattle.gsd_stores.specs.Sheet.{Row, row_count}
 use Rattle.gsd_stores.specs.Plan.{new_names}
 use Rattle.gsd_stores.specs.Demand3.{no_row}
-use Rattle.gsd_sheet.specs.Columns.{plan_words, slot_pair_column, slot_pair, new_row, Filled, Kept}
+use Rattle.gsd_sheet.specs.Columns.{plan_words, slot_pair_column, new_row, Filled}
 use Rattle.gsd_sheet.specs.Rows.{sheet_names, Located}
-use Rattle.gsd_names.specs.NameLists.{Spans}
 use Rattle.gsd_ids.specs.declared.NewNames.{NewNames}
 use Rattle.gsd_ids.specs.Order.{paired, Sorted}
 
@@ -21,9 +20,8 @@ pub record RowNamed (rs : List Row) (n row : ℕ) (name : List ℕ) : Type 0 whe
   pub within : row < n
   pub named : (get_or rs row no_row).name ≡ name
 
--- what the search for ids needs: names that lie in the image, and the rows of a sheet, no two with one name, where they lie
-pub record Searchable (img starts : List ℕ) (names : ℕ) (sheet c : List ℕ) (count : ℕ) : Type 0 where
-  pub spans : Spans false starts names (length img)
+-- what the search for ids among so many names needs: the rows of a sheet, no two with one name, where they lie
+pub record Searchable (names : ℕ) (sheet c : List ℕ) (count : ℕ) : Type 0 where
   pub few : names ≤ most_names
   pub long : length c ≡ plan_words
   pub located : Located sheet c
@@ -36,17 +34,6 @@ pub record IdsListed (names : List (List ℕ)) (rs : List Row) (c : List ℕ) (r
   pub fresh : r.count ≡ length (new_names names rs)
   pub rows : (j : ℕ) → j < r.count → RowNamed rs (length rs) (new_row c j) (get_or (new_names names rs) j [])
   pub size : r.size ≡ length (flat (new_names names rs))
-
--- the first n pairs as a list of 64
-pub record PairsTaken (c : List ℕ) (n : ℕ) (l : List ℕ) : Type 0 where
-  pub long : length l ≡ 64
-  pub at : (i : ℕ) → i < n → get_or l i 0 ≡ slot_pair c i
-
--- the first n numbers of a list as pairs; all else stays
-pub record PairsPut (c l : List ℕ) (n : ℕ) (c' : List ℕ) : Type 0 where
-  pub pairs : Filled slot_pair_column (λ i. get_or l i 0) c' n
-  pub kept : Kept slot_pair_column c c'
-  pub behind : (j : ℕ) → new_row c' j ≡ new_row c j
 
 -- the column of pairs as a list
 abbrev pub order : List ℕ → List ℕ

@@ -4,17 +4,15 @@
 
 mod order;
 
-ghost use Rattle.std.specs.Prelude.{◌≡◌, false, ◌+◌, ◌-◌, ◌≤◌, ◌<◌, length};
-ghost use Rattle.gsd_format.specs.Bytes.{part};
-ghost use Rattle.gsd_format.specs.Names.{index_of};
+ghost use Rattle.std.specs.Prelude.{◌≡◌, ◌<◌};
 ghost use Rattle.gsd_stores.specs.Sheet.{rows_of};
-ghost use Rattle.gsd_names.specs.NameLists.{names_in, Spans};
-ghost use Rattle.gsd_sheet.specs.Columns.{plan_words, slot_pair_column, Kept};
+ghost use Rattle.gsd_names.specs.NameLists.{names_in};
+ghost use Rattle.gsd_sheet.specs.Columns.{slot_pair_column, Kept};
 ghost use Rattle.gsd_ids.specs.Order.{paired};
-ghost use Rattle.gsd_ids.specs.RowIds.{Searchable, IdsListed, PairsTaken, PairsPut, IdsFound};
+ghost use Rattle.gsd_ids.specs.RowIds.{Searchable, IdsListed, IdsFound, order};
 
-use gsd_names::{PLACES, name_id};
-use gsd_sheet::{DATA_FROM, NAME_FROM, NEW_ROW, SLOT_PAIR};
+use gsd_names::Names;
+use gsd_sheet::{DATA_FROM, NAME_FROM, NEW_ROW, PLAN_WORDS, SLOT_PAIR};
 use order::sort;
 
 // How many names are new, and their bytes in a name list.
@@ -32,103 +30,56 @@ fn pair(id: usize, row: usize) -> u64
     64 * (id as u64) + row as u64
 }
 
-// The id of a name that lies in the sheet.
-fn id_of(
-    image: &[u8],
-    starts: &[u32; PLACES],
-    names: usize,
-    sheet: &[u8],
-    from: usize,
-    until: usize,
-) -> usize
-    requires spans { Spans false starts.now names (length image.now) }
-    requires ordered { from ≤ until }
-    requires inside { until ≤ length sheet.now }
-    ensures { result ≡ index_of (part sheet.now from (until - from)) (names_in false image.now starts.now names) }
-{
-    name_id(image, starts, false, names, &sheet[from..until])
-}
-
 // Each row's name is searched once. The pairs of id and row are still in the order of rows.
-fn list_ids(
-    image: &[u8],
-    starts: &[u32; PLACES],
-    names: usize,
-    sheet: &[u8],
-    plan: &mut [u64],
-    count: usize,
-) -> NewNames
-    requires { Searchable image.now starts.now names sheet.now plan.old count }
-    ensures listed { IdsListed (names_in false image.now starts.now names) (rows_of sheet.now)
+fn list_ids(names: &Names<'_>, sheet: &[u8], plan: &mut [u64; PLAN_WORDS], count: usize) -> NewNames
+    requires { Searchable names.now.count sheet.now plan.old count }
+    ensures listed { IdsListed (names_in names.now.v10 names.now.image.now names.now.starts.now names.now.count) (rows_of sheet.now)
         plan.new result }
     ensures kept { Kept slot_pair_column plan.old plan.new }
 {
     let mut fresh = 0;
     let mut size = 0;
-    let mut i = 0;
-    while i < count {
+    for i in 0..count {
         let from = plan[NAME_FROM + i] as usize;
         let until = plan[DATA_FROM + i] as usize;
-        let id = id_of(image, starts, names, sheet, from, until);
-        if id < names {
-            plan[SLOT_PAIR + i] = pair(id, i);
-            i += 1;
-            continue;
+        match names.id_of(&sheet[from..until]) {
+            Some(id) => plan[SLOT_PAIR + i] = pair(id, i),
+            None => {
+                plan[SLOT_PAIR + i] = pair(names.count + fresh, i);
+                plan[NEW_ROW + fresh] = i as u64;
+                fresh += 1;
+                size += until - from + 1;
+            }
         }
-        plan[SLOT_PAIR + i] = pair(names + fresh, i);
-        plan[NEW_ROW + fresh] = i as u64;
-        fresh += 1;
-        size += until - from + 1;
-        i += 1;
     }
     NewNames { count: fresh, size }
 }
 
-// The first `count` pairs as an array, and an array's numbers as the pairs.
-fn pairs_of(plan: &[u64], count: usize) -> [u64; 64]
-    requires long { length plan.now ≡ plan_words }
-    requires few { count ≤ 64 }
-    ensures { PairsTaken plan.now count result }
+// The column of pairs as an array.
+fn pairs_of(plan: &[u64; PLAN_WORDS]) -> [u64; 64]
+    ensures { result ≡ order plan.now }
 {
-    let mut pairs = [0u64; 64];
-    let mut i = 0;
-    while i < count {
-        pairs[i] = plan[SLOT_PAIR + i];
-        i += 1;
-    }
-    pairs
-}
-
-fn put_pairs(plan: &mut [u64], pairs: [u64; 64], count: usize)
-    requires long { length plan.old ≡ plan_words }
-    requires few { count ≤ 64 }
-    ensures { PairsPut plan.old pairs count plan.new }
-{
-    let mut i = 0;
-    while i < count {
-        plan[SLOT_PAIR + i] = pairs[i];
-        i += 1;
-    }
+    <[u64; 64]>::try_from(&plan[SLOT_PAIR..SLOT_PAIR + 64]).unwrap()
 }
 
 // The rows' ids: the column SLOT_PAIR has each with its row, in the order of ids, and the column NEW_ROW the new names'
-// rows, in the order of rows. The ids are ordered in an array that goes by value.
+// rows, in the order of rows. The ids are ordered in an array that goes by value. Out of line: so its arrays are on the stack while ids are
+// ordered, and not while the image is opened, which takes more.
+#[inline(never)]
 pub fn find_ids(
-    image: &[u8],
-    starts: &[u32; PLACES],
-    names: usize,
+    names: &Names<'_>,
     sheet: &[u8],
-    plan: &mut [u64],
+    plan: &mut [u64; PLAN_WORDS],
     count: usize,
 ) -> NewNames
-    requires { Searchable image.now starts.now names sheet.now plan.old count }
-    ensures found { IdsFound (names_in false image.now starts.now names) (rows_of sheet.now)
+    requires { Searchable names.now.count sheet.now plan.old count }
+    ensures found { IdsFound (names_in names.now.v10 names.now.image.now names.now.starts.now names.now.count) (rows_of sheet.now)
         plan.new result }
     ensures kept { Kept slot_pair_column plan.old plan.new }
 {
-    let new = list_ids(image, starts, names, sheet, plan, count);
-    let pairs = pairs_of(plan, count);
+    let new = list_ids(names, sheet, plan, count);
+    let pairs = pairs_of(plan);
     let ordered = sort(pairs, count);
-    put_pairs(plan, ordered, count);
+    plan[SLOT_PAIR..SLOT_PAIR + 64].copy_from_slice(&ordered);
     new
 }

@@ -15,6 +15,7 @@ pub fn read_full<R: Read>(reader: &mut R, bytes: &mut [u8]) -> io::Result<usize>
     ensures end { IfOk result (λ n. n < length bytes.new → IsAtEnd (R.remaining reader.new)) }
 {
     let mut done = 0;
+    // No loop of std's: `read_to_end` wants a heap, and `read_exact` does not say how much of a short input it has read.
     while done < bytes.len() {
         let n = reader.read(&mut bytes[done..])?;
         if n == 0 {

@@ -1,185 +1,186 @@
-// A line of a table of cases, read byte by byte: its word and its numbers. Numbers are decimal and below 2^64. In a text a
-// capital letter stands for the byte that is its place in the alphabet, and @ for a zero, so that every line is plain to read.
+// A line of a table of cases, read byte by byte: its word, its numbers and its texts. Numbers are decimal and below 2^64. In a text
+// a capital letter stands for the byte that is its place in the alphabet, and @ for a zero, so that every line is plain to read.
 #![tactic(auto)]
 
 pub mod words;
 
 ghost use Rattle.std.specs.Prelude.{◌≤◌, length};
 
-use std::num::wrapping_add_u64;
-use words::known;
+use words::{FORM_SIZE, Word, known};
 
-// A text is a number: 65,536 times where it starts in the table, and where it ends.
-pub fn span(start: u64, end: u64) -> u64 {
-    65536 * (start % 65536) + end % 65536
+// Where a text starts and ends.
+#[derive(Clone, Copy, Debug, PartialEq, Eq)]
+pub struct Span {
+    pub start: usize,
+    pub end: usize,
 }
 
-// No more than there are.
-pub fn within(len: u64, most: usize) -> usize
-    ensures { result ≤ most }
-{
-    if (most as u64) < len {
-        return most;
+impl Span {
+    // What of the text lies in the bytes.
+    pub fn of(self, bytes: &[u8]) -> &[u8] {
+        let to = self.end.min(bytes.len());
+        let from = self.start.min(to);
+        &bytes[from..to]
     }
-    len as usize
 }
 
-// A text, or what of it lies in the bytes.
-pub fn part(bytes: &[u8], text: u64) -> &[u8] {
-    let to = within(text % 65536, bytes.len());
-    let from = within(text / 65536, to);
-    &bytes[from..to]
+// What the next byte belongs to: a number and its value so far, a text or an answer and where it starts, or none of them.
+#[derive(Clone, Copy, Debug, PartialEq, Eq)]
+enum Mode {
+    Plain,
+    Number(u64),
+    Text(usize),
+    Answer(usize),
 }
 
-// What the next byte belongs to.
-const PLAIN: u8 = 0;
-
-const NUMBER: u8 = 1;
-
-const TEXT: u8 = 2;
-
-const ANSWER: u8 = 3;
-
-// A number's value, or where a text or an answer starts; and what the last byte adds to the form: a letter, 0 for a number,
-// ' for a text, the sign =, ! for what cannot be read, or nothing.
-#[derive(Clone, Copy)]
-struct Reader {
-    mode: u8,
-    value: u64,
-    sign: u8,
+// What a byte ends, a number or a text, or what it is by itself.
+#[derive(Clone, Copy, Debug, PartialEq, Eq)]
+enum Sign {
+    Number(u64),
+    Text(Span),
+    Byte(u8),
 }
 
-const NOTHING: u8 = 255;
-
-fn reads(mode: u8, value: u64, sign: u8) -> Reader {
-    Reader { mode, value, sign }
+impl Sign {
+    // What it adds to the form.
+    fn byte(self) -> u8 {
+        match self {
+            Sign::Number(_) => b'0',
+            Sign::Text(_) => b'\'',
+            Sign::Byte(c) => c,
+        }
+    }
 }
 
-// A text or an answer starts behind its sign.
-fn plain(c: u8, behind: u64) -> Reader {
+// For what cannot be read.
+const UNREADABLE: Sign = Sign::Byte(b'!');
+
+// A text or an answer starts behind its sign. A byte 255 says no more than a space.
+fn plain(c: u8, behind: usize) -> (Mode, Option<Sign>) {
     match c {
-        b' ' => reads(PLAIN, 0, NOTHING),
-        b'\'' => reads(TEXT, behind, NOTHING),
-        b'=' => reads(ANSWER, behind, c),
-        b'0'..=b'9' => reads(NUMBER, (c - 48) as u64, NOTHING),
-        _ => reads(PLAIN, 0, c),
+        b' ' | 255 => (Mode::Plain, None),
+        b'\'' => (Mode::Text(behind), None),
+        b'=' => (Mode::Answer(behind), Some(Sign::Byte(c))),
+        b'0'..=b'9' => (Mode::Number((c - b'0') as u64), None),
+        _ => (Mode::Plain, Some(Sign::Byte(c))),
     }
 }
 
-fn with_digit(value: u64, digit: u64) -> Reader {
-    if (18446744073709551615 - digit) / 10 < value {
-        return reads(PLAIN, 0, b'!');
-    }
-    reads(NUMBER, 10 * value + digit, NOTHING)
+// Not by `parse`: a line is read byte by byte, and where a number starts is not kept.
+fn with_digit(value: u64, digit: u8) -> Option<u64> {
+    value.checked_mul(10)?.checked_add(digit as u64)
 }
 
-fn number(value: u64, c: u8) -> Reader {
+fn number(value: u64, c: u8) -> (Mode, Option<Sign>) {
     match c {
-        b'0'..=b'9' => with_digit(value, (c - 48) as u64),
-        b' ' => reads(PLAIN, value, b'0'),
-        _ => reads(PLAIN, 0, b'!'),
+        b'0'..=b'9' => match with_digit(value, c - b'0') {
+            Some(value) => (Mode::Number(value), None),
+            None => (Mode::Plain, Some(UNREADABLE)),
+        },
+        b' ' => (Mode::Plain, Some(Sign::Number(value))),
+        _ => (Mode::Plain, Some(UNREADABLE)),
     }
 }
 
-fn text(start: u64, c: u8, i: u64) -> Reader {
-    if c != b'\'' {
-        return reads(TEXT, start, NOTHING);
+fn text(start: usize, c: u8, at: usize) -> (Mode, Option<Sign>) {
+    match c {
+        b'\'' => (Mode::Plain, Some(Sign::Text(Span { start, end: at }))),
+        _ => (Mode::Text(start), None),
     }
-    reads(PLAIN, span(start, i), c)
 }
 
-// With the byte c, which stands at i.
-fn read(r: Reader, c: u8, i: u64) -> Reader {
-    let mode = r.mode;
+// With the byte c, which stands at this place.
+fn step(mode: Mode, c: u8, at: usize) -> (Mode, Option<Sign>) {
     match mode {
-        PLAIN => plain(c, wrapping_add_u64(i, 1)),
-        NUMBER => number(r.value, c),
-        TEXT => text(r.value, c, i),
-        _ => reads(mode, r.value, NOTHING),
+        Mode::Plain => plain(c, at.wrapping_add(1)),
+        Mode::Number(value) => number(value, c),
+        Mode::Text(start) => text(start, c, at),
+        Mode::Answer(_) => (mode, None),
     }
 }
 
-// A line's last five numbers; the last is e.
-#[derive(Clone, Copy)]
-pub struct Numbers {
-    pub a: u64,
-    pub b: u64,
-    pub c: u64,
-    pub d: u64,
-    pub e: u64,
-}
-
-// With the number of a sign 0 or '.
-fn with(n: Numbers, sign: u8, value: u64) -> Numbers {
-    if b'0' < sign {
-        return n;
-    }
-    Numbers {
-        a: n.b,
-        b: n.c,
-        c: n.d,
-        d: n.e,
-        e: value,
-    }
-}
-
-// The form's length with a sign.
-fn formed(form: &mut [u8; 16], len: usize, sign: u8) -> usize {
-    if sign == NOTHING {
-        return len;
-    }
-    if 15 < len {
-        return len;
-    }
-    form[len] = sign;
-    len + 1
-}
-
-// A line's word, by its place in the list of words; and the text of its answer, which the sign = tells.
-#[derive(Clone, Copy)]
+// A line's last three numbers and last two texts, and the text of its answer, which the sign = tells.
+#[derive(Clone, Copy, Debug, PartialEq, Eq)]
 pub struct Line {
-    pub word: usize,
-    pub numbers: Numbers,
-    pub answer: u64,
+    pub word: Word,
+    pub numbers: [u64; 3],
+    pub texts: [Span; 2],
+    pub answer: Span,
+}
+
+// What was read of a line so far; spaces follow its form.
+#[derive(Clone, Copy)]
+struct Reading {
+    mode: Mode,
+    form: [u8; FORM_SIZE],
+    numbers: [u64; 3],
+    texts: [Span; 2],
+}
+
+impl Reading {
+    fn new() -> Reading {
+        Reading {
+            mode: Mode::Plain,
+            form: [b' '; FORM_SIZE],
+            numbers: [0; 3],
+            texts: [Span { start: 0, end: 0 }; 2],
+        }
+    }
+
+    fn sign(&mut self, sign: Sign) {
+        if let Some(end) = self.form.iter().position(|c| *c == b' ') {
+            self.form[end] = sign.byte();
+        }
+        match sign {
+            Sign::Number(n) => self.numbers = [self.numbers[1], self.numbers[2], n],
+            Sign::Text(text) => self.texts = [self.texts[1], text],
+            Sign::Byte(_) => {}
+        }
+    }
+
+    // With the byte c, which stands at this place.
+    fn read(&mut self, c: u8, at: usize) {
+        let (mode, sign) = step(self.mode, c, at);
+        self.mode = mode;
+        if let Some(sign) = sign {
+            self.sign(sign);
+        }
+    }
+
+    // The line that ends here, if its form is known. A line without an answer makes something, and nobody reads its span.
+    fn line(self, end: usize) -> Option<Line> {
+        let start = match self.mode {
+            Mode::Answer(start) => start,
+            _ => 0,
+        };
+        Some(Line {
+            word: known(&self.form)?,
+            numbers: self.numbers,
+            texts: self.texts,
+            answer: Span { start, end },
+        })
+    }
 }
 
 fn byte_of(c: u8) -> u8 {
     match c {
-        b'@'..=b'Z' => c - 64,
+        b'@'..=b'Z' => c - b'@',
         _ => c,
     }
 }
 
-// The line from a place up to its newline; its letters become the bytes that they stand for.
-pub fn read_line(table: &mut [u8], from: usize, to: usize) -> Line
+// The line from a place up to its newline, if its form is known; its letters become the bytes that they stand for.
+pub fn read_line(table: &mut [u8], from: usize, to: usize) -> Option<Line>
     requires { to ≤ length table.old }
 {
-    let mut form = *b"                ";
-    let mut r = reads(PLAIN, 0, NOTHING);
-    let mut n = Numbers {
-        a: 0,
-        b: 0,
-        c: 0,
-        d: 0,
-        e: 0,
-    };
-    let mut len = 0;
-    let mut i = from;
-    while i < to {
+    let mut reading = Reading::new();
+    for i in from..to {
         let c = table[i];
         table[i] = byte_of(c);
-        r = read(r, c, i as u64);
-        n = with(n, r.sign, r.value);
-        len = formed(&mut form, len, r.sign);
-        i += 1;
+        reading.read(c, i);
     }
-    r = read(r, b' ', to as u64);
-    formed(&mut form, len, r.sign);
-    Line {
-        word: known(&form),
-        numbers: with(n, r.sign, r.value),
-        answer: span(r.value, to as u64),
-    }
+    reading.read(b' ', to);
+    reading.line(to)
 }
 
 // Where the line from a place ends.
@@ -189,12 +190,8 @@ pub fn line_end(table: &[u8], from: usize, n: usize) -> usize
     ensures behind { from ≤ result }
     ensures bound { result ≤ n }
 {
-    let mut i = from;
-    while i < n {
-        if table[i] == b'\n' {
-            return i;
-        }
-        i += 1;
+    match table[from..n].iter().position(|c| *c == b'\n') {
+        Some(length) => from + length,
+        None => n,
     }
-    n
 }

@@ -1,150 +1,140 @@
 // The words of a table. A line's form is its word with 0 for each number, ' for each text and = before an answer: a line
 // "lookup 0 'probe' = 41" has the form "lookup0'=".
 
-const FORMS: [u8; 688] = *b"\
-image0          \
-use0            \
-bytes0'         \
-word00          \
-byte00          \
-keep            \
-back            \
-sheet'          \
-more'           \
-patch00         \
-cut0            \
-hold            \
-held            \
-reader00        \
-note            \
-noted           \
-end=            \
-word0=          \
-has0'=          \
-same=           \
-create000''=    \
-append0=        \
-begin=          \
-turn0=          \
-name0=          \
-chunk0'=        \
-element0'0=     \
-open=           \
-entry0=         \
-lookup0'=       \
-probes0'=       \
-nchilada0'00=   \
-reader=         \
-byname0=        \
-bychunk0'=      \
-byelement0'0=   \
-byentry0=       \
-bylookup0'=     \
-byid'=          \
-byfind00=       \
-bynewest00=     \
-rawwrite0'0=    \
-rawread'0=      \
-";
+// By what they do: words that make an image or a sheet, hold a state or set a reader; those that look at the image, change it by
+// a call, read it, write its NChilada files, and read it by the reader; and those of RawArray files.
+#[derive(Clone, Copy, Debug, PartialEq, Eq)]
+pub enum Word {
+    Make(Make),
+    Look(Look),
+    Call(Call),
+    Ask(Ask),
+    Nchilada,
+    AskBy(AskBy),
+    Raw(Raw),
+}
 
-// Their places in this list: the words that make an image or a sheet, hold a state or set a reader; those that look at the image,
-// make or change it, read it, and read it by the reader; and those of RawArray files.
-pub const IMAGE: usize = 0;
+#[derive(Clone, Copy, Debug, PartialEq, Eq)]
+pub enum Make {
+    Image,
+    Use,
+    Bytes,
+    Word,
+    Byte,
+    Keep,
+    Back,
+    Sheet,
+    More,
+    Patch,
+    Cut,
+    Hold,
+    Held,
+    Reader,
+    Note,
+    Noted,
+}
 
-pub const USE: usize = 1;
+#[derive(Clone, Copy, Debug, PartialEq, Eq)]
+pub enum Look {
+    End,
+    Word,
+    Has,
+    Same,
+}
 
-pub const BYTES: usize = 2;
+#[derive(Clone, Copy, Debug, PartialEq, Eq)]
+pub enum Call {
+    Create,
+    Append,
+    Begin,
+    Turn,
+}
 
-pub const WORD: usize = 3;
+#[derive(Clone, Copy, Debug, PartialEq, Eq)]
+pub enum Ask {
+    Name,
+    Chunk,
+    Element,
+    Open,
+    Entry,
+    Lookup,
+    Probes,
+}
 
-pub const BYTE: usize = 4;
+#[derive(Clone, Copy, Debug, PartialEq, Eq)]
+pub enum AskBy {
+    Open,
+    Name,
+    Chunk,
+    Element,
+    Entry,
+    Lookup,
+    Id,
+    Find,
+    Newest,
+}
 
-pub const KEEP: usize = 5;
+#[derive(Clone, Copy, Debug, PartialEq, Eq)]
+pub enum Raw {
+    Write,
+    Read,
+}
 
-pub const BACK: usize = 6;
+// Forms with spaces behind them.
+pub const FORM_SIZE: usize = 16;
 
-pub const SHEET: usize = 7;
+const FORMS: [([u8; FORM_SIZE], Word); 43] = [
+    (*b"image0          ", Word::Make(Make::Image)),
+    (*b"use0            ", Word::Make(Make::Use)),
+    (*b"bytes0'         ", Word::Make(Make::Bytes)),
+    (*b"word00          ", Word::Make(Make::Word)),
+    (*b"byte00          ", Word::Make(Make::Byte)),
+    (*b"keep            ", Word::Make(Make::Keep)),
+    (*b"back            ", Word::Make(Make::Back)),
+    (*b"sheet'          ", Word::Make(Make::Sheet)),
+    (*b"more'           ", Word::Make(Make::More)),
+    (*b"patch00         ", Word::Make(Make::Patch)),
+    (*b"cut0            ", Word::Make(Make::Cut)),
+    (*b"hold            ", Word::Make(Make::Hold)),
+    (*b"held            ", Word::Make(Make::Held)),
+    (*b"reader00        ", Word::Make(Make::Reader)),
+    (*b"note            ", Word::Make(Make::Note)),
+    (*b"noted           ", Word::Make(Make::Noted)),
+    (*b"end=            ", Word::Look(Look::End)),
+    (*b"word0=          ", Word::Look(Look::Word)),
+    (*b"has0'=          ", Word::Look(Look::Has)),
+    (*b"same=           ", Word::Look(Look::Same)),
+    (*b"create000''=    ", Word::Call(Call::Create)),
+    (*b"append0=        ", Word::Call(Call::Append)),
+    (*b"begin=          ", Word::Call(Call::Begin)),
+    (*b"turn0=          ", Word::Call(Call::Turn)),
+    (*b"name0=          ", Word::Ask(Ask::Name)),
+    (*b"chunk0'=        ", Word::Ask(Ask::Chunk)),
+    (*b"element0'0=     ", Word::Ask(Ask::Element)),
+    (*b"open=           ", Word::Ask(Ask::Open)),
+    (*b"entry0=         ", Word::Ask(Ask::Entry)),
+    (*b"lookup0'=       ", Word::Ask(Ask::Lookup)),
+    (*b"probes0'=       ", Word::Ask(Ask::Probes)),
+    (*b"nchilada0'00=   ", Word::Nchilada),
+    (*b"reader=         ", Word::AskBy(AskBy::Open)),
+    (*b"byname0=        ", Word::AskBy(AskBy::Name)),
+    (*b"bychunk0'=      ", Word::AskBy(AskBy::Chunk)),
+    (*b"byelement0'0=   ", Word::AskBy(AskBy::Element)),
+    (*b"byentry0=       ", Word::AskBy(AskBy::Entry)),
+    (*b"bylookup0'=     ", Word::AskBy(AskBy::Lookup)),
+    (*b"byid'=          ", Word::AskBy(AskBy::Id)),
+    (*b"byfind00=       ", Word::AskBy(AskBy::Find)),
+    (*b"bynewest00=     ", Word::AskBy(AskBy::Newest)),
+    (*b"rawwrite0'0=    ", Word::Raw(Raw::Write)),
+    (*b"rawread'0=      ", Word::Raw(Raw::Read)),
+];
 
-pub const MORE: usize = 8;
-
-pub const PATCH: usize = 9;
-
-pub const CUT: usize = 10;
-
-pub const HOLD: usize = 11;
-
-pub const HELD: usize = 12;
-
-pub const READER_WORD: usize = 13;
-
-pub const NOTE: usize = 14;
-
-pub const NOTED: usize = 15;
-
-pub const END: usize = 16;
-
-pub const WORD_AT: usize = 17;
-
-pub const HAS: usize = 18;
-
-pub const SAME: usize = 19;
-
-pub const CREATE: usize = 20;
-
-pub const APPEND: usize = 21;
-
-pub const BEGIN: usize = 22;
-
-pub const TURN: usize = 23;
-
-pub const NAME: usize = 24;
-
-pub const CHUNK: usize = 25;
-
-pub const ELEMENT: usize = 26;
-
-pub const OPEN: usize = 27;
-
-pub const ENTRY: usize = 28;
-
-pub const LOOKUP: usize = 29;
-
-pub const PROBES: usize = 30;
-
-pub const NCHILADA: usize = 31;
-
-pub const READER: usize = 32;
-
-pub const BY_NAME: usize = 33;
-
-pub const BY_CHUNK: usize = 34;
-
-pub const BY_ELEMENT: usize = 35;
-
-pub const BY_ENTRY: usize = 36;
-
-pub const BY_LOOKUP: usize = 37;
-
-pub const BY_ID: usize = 38;
-
-pub const BY_FIND: usize = 39;
-
-pub const BY_NEWEST: usize = 40;
-
-pub const RAW_WRITE: usize = 41;
-
-pub const RAW_READ: usize = 42;
-
-pub const UNKNOWN: usize = 43;
-
-// The place of a form in the list.
-pub fn known(form: &[u8; 16]) -> usize {
-    let mut k = 0;
-    while k < UNKNOWN {
-        if gsd_bytes::same_part(&FORMS, 16 * k, form, 0, 16) {
-            return k;
+// The word of a form.
+pub fn known(form: &[u8; FORM_SIZE]) -> Option<Word> {
+    for (listed, word) in &FORMS {
+        if listed == form {
+            return Some(*word);
         }
-        k += 1;
     }
-    k
+    None
 }

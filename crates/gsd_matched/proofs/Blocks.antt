@@ -55,7 +55,7 @@ unfolding tasks tasks_from stores_of words up le_bytes
 number-store sheet at w = record {
   same = λ img u.
       let x : Extent = number at 1 w in
-      let place : place_of x 0 ≡ at = place_other x 0 (λ e. omega arith) ∙ omega arith in
+      let place : place_of x 0 ≡ at = place_other x 0 (λ e. cc) ∙ omega arith in
       let bytes : le_bytes 8 (word_of sheet img x 0) ≡ eight_of (le_bytes 8 w) (at - at)
       = ap (le_bytes 8) (word_number sheet img x 0 refl) ∙ ap (eight_of (le_bytes 8 w)) (let e : 0 ≡ at - at = omega arith in e) in
       λ i. record { place = place i; bytes = bytes i } ∷ [];

@@ -14,7 +14,8 @@ use Rattle.gsd_stores.specs.Stores.{eight_of, words, up, down}
 use Rattle.gsd_stores.proofs.Stores.{eight-at}
 use Rattle.gsd_extents.specs.declared.extent.Extent.{Extent}
 use Rattle.gsd_extents.specs.Exec.{place_of, over, word_of, applied, tasks_from, tasks, stores_of}
-use Rattle.gsd_extents.specs.Extents.{name_kind, number, row_data, name, copied}
+use Rattle.gsd_extents.specs.declared.extent.Kind.{Kind}
+use Rattle.gsd_extents.specs.Extents.{number, row_data, name, copied}
 use Rattle.gsd_extents.proofs.Words.{cut-before, cut-behind, place-name, place_other, source_name, source-other}
 use Rattle.gsd_extents.proofs.Words.{text-image, text-sheet, text-name, word_number, word_read}
 
@@ -39,7 +40,7 @@ unfoldable places_from : Extent → ℕ → ℕ → List ℕ
 places_from x w zero = []
 places_from x w (suc n) = place_of x w ∷ places_from x (suc w) n
 
-places-up : (x : Extent) (n w : ℕ) → (x.kind ≡ name_kind → ⊥) → places_from x w n ≡ up (x.to + 8 * w) n
+places-up : (x : Extent) (n w : ℕ) → (x.kind ≡ Kind.Name → ⊥) → places_from x w n ≡ up (x.to + 8 * w) n
 unfolding places_from up
 places-up x zero w h = refl
 places-up x (suc n) w h =
@@ -47,7 +48,7 @@ places-up x (suc n) w h =
     let f : places_from x (suc w) n ≡ up (x.to + 8 * w + 8) n = places-up x n (suc w) h ∙ ap (λ a. up a n) (omega arith) in
     λ i. e i ∷ f i
 
-places-down : (x : Extent) (n w : ℕ) → x.kind ≡ name_kind → w + n ≡ x.words → places_from x w n ≡ down x.to n
+places-down : (x : Extent) (n w : ℕ) → x.kind ≡ Kind.Name → w + n ≡ x.words → places_from x w n ≡ down x.to n
 unfolding places_from down
 places-down x zero w h l = refl
 places-down x (suc n) w h l =
@@ -77,7 +78,7 @@ module _ (sheet : List ℕ) (x : Extent) (t : List ℕ) (base : ℕ) (o : Octets
   extent-stores img reads = ap (stores_of sheet img) (append-nil (tasks_from x 0 x.words)) ∙ stores-from x.words 0 img (omega arith) (λ k a b. reads k b)
 
   -- with its words upwards
-  extent-up : (img : List ℕ) → (x.kind ≡ name_kind → ⊥) → ((k : ℕ) → k < x.words → word_of sheet img x k ≡ le 8 t (x.to + 8 * k - base)) →
+  extent-up : (img : List ℕ) → (x.kind ≡ Kind.Name → ⊥) → ((k : ℕ) → k < x.words → word_of sheet img x k ≡ le 8 t (x.to + 8 * k - base)) →
       stores_of sheet img (tasks (x ∷ [])) ≡ words t base (up x.to x.words)
   extent-up img h reads =
       extent-stores img (λ k l. reads k l ∙ ap (λ a. le 8 t (a - base)) (sym (place_other x k h)))
@@ -118,7 +119,7 @@ module _ (sheet : List ℕ) (t : List ℕ) (base : ℕ) (o : Octets t) where
   number-stores to n v img h =
       let x : Extent = number to n v in
       extent-up sheet x t base o (λ y w k a b. word_number sheet (applied sheet y x w) x k refl ∙ sym (word_number sheet y x k refl))
-      img (λ e. omega arith) (λ k l. word_number sheet img x k refl ∙ h k l)
+      img (λ e. cc) (λ k l. word_number sheet img x k refl ∙ h k l)
 
   -- a text that is cut off stands at the extent's places
   abbrev pub Cut : List ℕ → ℕ → ℕ → ℕ → ℕ → Type 0
@@ -136,27 +137,27 @@ module _ (sheet : List ℕ) (t : List ℕ) (base : ℕ) (o : Octets t) where
   data-stores to from until img b h =
       let x : Extent = row_data to from until in
       let reads : ((y : List ℕ) (k : ℕ) → word_of sheet y x k ≡ le 8 (take until sheet) (from + 8 * k)) = λ y k.
-      word_read sheet y x k (λ e. omega arith) ∙ (λ i. le 8 (text-sheet sheet y x refl i) (source-other x k (λ e. omega arith) i)) in
+      word_read sheet y x k (λ e. cc) ∙ (λ i. le 8 (text-sheet sheet y x refl i) (source-other x k (λ e. cc) i)) in
       extent-up sheet x t base o (λ y w k a c. reads (applied sheet y x w) k ∙ sym (reads y k))
-      img (λ e. omega arith) (λ k l. reads img k ∙ cut_word sheet until from to _ k b h l)
+      img (λ e. cc) (λ k l. reads img k ∙ cut_word sheet until from to _ k b h l)
 
   -- the source ends before the place where the extent begins, or there is one word
   pub copied-stores : (to n from until : ℕ) (img : List ℕ) → base ≤ to → (until ≤ to) ⊎ (n ≤ 1) → Cut img until from to n →
       stores_of sheet img (tasks (copied to n from until ∷ [])) ≡ words t base (up to n)
   copied-stores to n from until img b off h =
-      extent-up sheet x t base o (λ y w k a c. own y w k a c off) img (λ e. omega arith) (λ k l. reads img k ∙ cut_word img until from to n k b h l)
+      extent-up sheet x t base o (λ y w k a c. own y w k a c off) img (λ e. cc) (λ k l. reads img k ∙ cut_word img until from to n k b h l)
     where
       x : Extent
       x = copied to n from until
 
       reads : (y : List ℕ) (k : ℕ) → word_of sheet y x k ≡ le 8 (take until y) (from + 8 * k)
-      reads y k = word_read sheet y x k (λ e. omega arith) ∙ (λ i. le 8 (text-image sheet y x refl i) (source-other x k (λ e. omega arith) i))
+      reads y k = word_read sheet y x k (λ e. cc) ∙ (λ i. le 8 (text-image sheet y x refl i) (source-other x k (λ e. cc) i))
 
       own : (y : List ℕ) (w k : ℕ) → w < k → k < n → (until ≤ to) ⊎ (n ≤ 1) → word_of sheet (applied sheet y x w) x k ≡ word_of sheet y x k
       own y w k a c (inl e) =
           reads (applied sheet y x w) k
           ∙ le_same 8 _ (from + 8 * k) _ (from + 8 * k) (λ j m. cut-kept y (place_of x w) (le_bytes 8 (word_of sheet y x w)) until (from + 8 * k + j)
-          (omega (arith, place_other x w (λ i. omega arith))))
+          (omega (arith, place_other x w (λ i. cc))))
           ∙ sym (reads y k)
       own y w k a c (inr e) = absurd (omega arith)
 
@@ -175,7 +176,7 @@ module _ (sheet : List ℕ) (t : List ℕ) (base : ℕ) (o : Octets t) where
       x = name at from until
 
       reads : (y : List ℕ) (k : ℕ) → word_of sheet y x k ≡ le 8 (over y sheet at from until) (place_of x k)
-      reads y k = word_read sheet y x k (λ e. omega arith) ∙ (λ i. le 8 (text-name sheet y x refl i) (source_name x k refl i))
+      reads y k = word_read sheet y x k (λ e. cc) ∙ (λ i. le 8 (text-name sheet y x refl i) (source_name x k refl i))
 
       own : (y : List ℕ) (w k : ℕ) → w < k → k < x.words → word_of sheet (applied sheet y x w) x k ≡ word_of sheet y x k
       own y w k a c =

@@ -9,6 +9,7 @@ use native.Mathlib.Omega.{arith}
 use lib.ListN.{length, get_or, length-map}
 use borrow.Author.Tests.{lt-ltb, le-ltb}
 use Rattle.gsd_format.specs.declared.Layout.{Layout}
+use Rattle.gsd_format.specs.declared.Part.{Part}
 use Rattle.gsd_format.specs.Bytes.{same}
 use Rattle.gsd_format.specs.Header.{v10}
 use Rattle.gsd_format.specs.Names.{block_parts, bytes_of, index_of, block_names, Has, Lacks}
@@ -39,10 +40,15 @@ from_at (suc n) v starts i zero h = ap (part_at v starts) (sym (add-zero i))
 from_at (suc n) v starts i (suc k) h =
     from_at n v starts (i + 1) k (omega arith) ∙ ap (part_at v starts) (let e : i + 1 + k ≡ i + suc k = omega arith in e)
 
-from-length : (n : ℕ) (v : Bool) (starts : List ℕ) (i : ℕ) → length (parts_from v starts i n) ≡ n
+pub from-length : (n : ℕ) (v : Bool) (starts : List ℕ) (i : ℕ) → length (parts_from v starts i n) ≡ n
 unfolding parts_from
 from-length zero v starts i = refl
 from-length (suc n) v starts i = ap suc (from-length n v starts (i + 1))
+
+-- the i-th of the parts ps, which are the first count
+pub listed-part : (v : Bool) (starts : List ℕ) (count : ℕ) (ps : List Part) → parts_from v starts 0 count ≡ ps → (i : ℕ) → i < count →
+    get_or ps i nowhere ≡ part_at v starts i
+listed-part v starts count ps e i h = ap (λ qs. get_or qs i nowhere) (sym e) ∙ from_at count v starts 0 i h ∙ ap (part_at v starts) (zero-add i)
 
 -- A name that comes again behind the first, or not
 
@@ -92,6 +98,10 @@ module _ (v : Bool) (img starts : List ℕ) (count : ℕ) where
   pub passed-all : (b : List ℕ) (a i : ℕ) → count ≤ i → Passed b a i → index_of b (names a) + a ≡ i
   passed-all b a i h p = let e : index_of b (names i) ≡ 0 = ap (index_of b) (names-none i h) ∙ index-none b in omega arith
 
+  -- it is none of them
+  pub passed-none : (b : List ℕ) (a i : ℕ) → count ≤ i → i ≤ count → Passed b a i → index_of b (names a) + a ≡ count
+  passed-none b a i h g p = omega (arith, passed-all b a i h p)
+
   -- The twins among the names from the i-th on: a name that comes again, or those of the names behind it
 
   names-from : (b : List ℕ) (i : ℕ) → i < count → b ≡ bytes_of img (part_at v starts i) → names i ≡ b ∷ names (i + 1)
@@ -126,7 +136,7 @@ module _ (v : Bool) (img starts : List ℕ) (count : ℕ) where
   unfolding twins
   twins-none i h = ap twins (names-none i h)
 
--- What is found, by name and by place
+-- What is found, by name
 
 module _ (img : List ℕ) (l : Layout) (starts : List ℕ) (list : NameList) (found : NamesFound img l starts list) (closed : list.«open» ≡ false) where
   pub found-count : length (block_names img l) ≡ list.count
@@ -134,11 +144,6 @@ module _ (img : List ℕ) (l : Layout) (starts : List ℕ) (list : NameList) (fo
 
   pub found-names : list.count ≤ most_names → names_in (v10 l.version) img starts list.count ≡ block_names img l
   found-names h = ap (map (bytes_of img)) (found.parts closed h)
-
-  pub found_part : list.count ≤ most_names → (i : ℕ) → i < list.count → get_or (block_parts img l) i nowhere ≡ part_at (v10 l.version) starts i
-  found_part h i u =
-      ap (λ ps. get_or ps i nowhere) (sym (found.parts closed h)) ∙ from_at list.count (v10 l.version) starts 0 i u
-      ∙ ap (part_at (v10 l.version) starts) (zero-add i)
 
 -- The numbers 9 to 11 by what is found
 

@@ -1,7 +1,7 @@
 -- The name list found name by name: a name from its start, and by the version what follows it; what is found so far, shown once
 -- over the versions; and the two passes.
 use Prim.Native.Nat.{ℕ, suc, zero, ◌+◌, ◌*◌, ◌-◌, ◌≤◌, ◌<◌}
-use mathlib.Core.Path.{◌≡◌, refl, sym, ◌∙◌, ap}
+use mathlib.Core.Path.{◌≡◌, refl, sym, ◌∙◌, ap, subst}
 use mathlib.Core.Bool.{Bool, true, false, true≢false, not, ◌&&◌}
 use mathlib.Core.List.{List, [], ◌∷◌, ◌++◌, map, append_assoc, append-nil}
 use native.Mathlib.Nat.{add-zero, zero-add}
@@ -9,10 +9,11 @@ use native.Mathlib.Numerals.{add-one}
 use native.Mathlib.Decide.{ℕ_discrete}
 use native.Mathlib.Omega.{arith}
 use lib.ListN.{length, get_or, set, length-set}
+use Rattle.std.proofs.Common.{Option, Some, None, MatchOption}
 use lib.Seq.{get_or-set_same, get_or-set_other}
 use lib.Dec.{ltb, eqb}
 use borrow.Author.Count.{below_more}
-use borrow.Author.Tests.{lt-ltb, le-ltb, ne_eqb, eqb-true, not-false}
+use borrow.Author.Tests.{lt-ltb, ne_eqb, eqb-true, not-false}
 use Rattle.gsd_format.specs.declared.Layout.{Layout}
 use Rattle.gsd_format.specs.declared.Part.{Part}
 use Rattle.gsd_format.specs.Header.{v10}
@@ -56,6 +57,11 @@ module _ (img : List ℕ) (start stop : ℕ) where
     };
     none = λ e. absurd (omega (arith, z.above));
   }
+
+-- what holds where none is found
+pub no-name : {P : Type 0} (Q : ℕ → Type 0) (r : Option ℕ) → MatchOption r P Q → ((x : ℕ) → r ≡ Some x → ⊥) → P
+no-name Q None h n = h
+no-name Q (Some x) h n = absurd (n x refl)
 
 -- 2.x: that name and the rest, which begins behind it
 
@@ -272,11 +278,11 @@ module _ (img : List ℕ) (l : Layout) where
         );
       }
 
-  pub joined-all : version ≡ false → (starts : List ℕ) (count start next : ℕ) → Joined starts count start → next ≤ start → Past img start stop next →
+  pub joined-all : version ≡ false → (starts : List ℕ) (count start : ℕ) → Joined starts count start → Past img start stop start →
       (unclosed : Bool) → unclosed ≡ (ltb start stop && not (eqb (get_or img start 0) 0)) →
       NamesFound img l starts (record { count = count; list_end = start; «open» = unclosed })
-  joined-all r starts count start next g done p unclosed told =
-      let e : parts_at img start start (stop - start) ≡ [] = parts-done img start stop next p (omega (arith, p.above)) in
+  joined-all r starts count start g p unclosed told =
+      let e : parts_at img start start (stop - start) ≡ [] = parts-done img start stop start p refl in
       let end : start ≡ l.namelist + length (flat (block_names img l)) =
       omega (arith, g.end, ap (λ ps. length (flat (map (bytes_of img) ps))) e, ap length flat-none) in
       found_all starts count start _ g.found start unclosed
@@ -308,11 +314,10 @@ module _ (img : List ℕ) (l : Layout) where
     one : count < l.segments → left count ≡ suc (left (count + 1))
     one h = omega arith
 
-    pub segmented-more : stop ≤ length img → count < l.segments → (next : ℕ) → Past img start (start + 64) next → (next ≡ start → ⊥) →
+    pub segmented-more : stop ≤ length img → count < l.segments → (next : ℕ) → start < next → Past img start (start + 64) next →
         Segmented (set starts (count + 1) next) (count + 1) (start + 64)
-    segmented-more room h next p n =
+    segmented-more room h next some p =
         let rest : ℕ = left (count + 1) in
-        let some : start < next = omega (arith, p.above) in
         record {
           found = rw r at (found-more starts count start next _ (segments_at img (start + 64) rest) g.found some
               (omega (arith, p.within, g.place)) (ap (segments_at img start) (one h) ∙ segments-one img start rest next p some));
@@ -321,23 +326,24 @@ module _ (img : List ℕ) (l : Layout) where
           unclosed = sym (open-on img start rest next p some) ∙ ap (unclosed_from img start) (sym (one h)) ∙ g.unclosed;
         }
 
-    module _ (unclosed : Bool) (told : unclosed ≡ (ltb start stop && not (eqb (get_or img start 0) 0))) where
-      ends : unclosed_from img start (left count) ≡ unclosed → (unclosed ≡ false → segments_at img start (left count) ≡ []) →
-          NamesFound img l starts (record { count = count; list_end = start; «open» = unclosed })
-      ends o e =
-          found_all starts count start _ g.found start unclosed (sym o ∙ g.unclosed) e
-          (omega (arith, g.place)) (λ f. absurd (true≢false (sym r ∙ f)))
+    ends : (unclosed : Bool) → unclosed_from img start (left count) ≡ unclosed → (unclosed ≡ false → segments_at img start (left count) ≡ []) →
+        NamesFound img l starts (record { count = count; list_end = start; «open» = unclosed })
+    ends unclosed o e =
+        found_all starts count start _ g.found start unclosed (sym o ∙ g.unclosed) e
+        (omega (arith, g.place)) (λ f. absurd (true≢false (sym r ∙ f)))
 
-      -- every segment has a name
-      pub segmented-all : l.segments ≤ count → NamesFound img l starts (record { count = count; list_end = start; «open» = unclosed })
-      segmented-all h =
-          let e : left count ≡ 0 = omega arith in
-          let shut : unclosed ≡ false = told ∙ rw (le-ltb start stop (omega (arith, g.place))) in
-          ends (ap (unclosed_from img start) e ∙ open_none img start ∙ sym shut) (λ _. ap (segments_at img start) e ∙ segments-none img start)
+    -- every segment has a name
+    pub segmented-all : l.segments ≤ count → NamesFound img l starts (record { count = l.segments; list_end = start; «open» = false })
+    segmented-all h =
+        let all : count ≡ l.segments = omega (arith, g.within) in
+        let e : left count ≡ 0 = omega arith in
+        subst (λ (n : ℕ). NamesFound img l starts (record { count = n; list_end = start; «open» = false })) all
+        (ends false (ap (unclosed_from img start) e ∙ open_none img start) (λ _. ap (segments_at img start) e ∙ segments-none img start))
 
-      pub segmented-end : count < l.segments → (next : ℕ) → Past img start (start + 64) next → next ≡ start →
-          NamesFound img l starts (record { count = count; list_end = start; «open» = unclosed })
-      segmented-end h next p e =
-          let (o, s) = segments-done img start (left (count + 1)) next p e in
-          let byte : unclosed ≡ not (eqb (get_or img start 0) 0) = told ∙ rw (lt-ltb start stop (omega (arith, g.place))) in
-          ends (ap (unclosed_from img start) (one h) ∙ o ∙ sym byte) (λ f. ap (segments_at img start) (one h) ∙ s (sym byte ∙ f))
+    pub segmented-end : count < l.segments → Past img start (start + 64) start →
+        (unclosed : Bool) → unclosed ≡ (ltb start stop && not (eqb (get_or img start 0) 0)) →
+        NamesFound img l starts (record { count = count; list_end = start; «open» = unclosed })
+    segmented-end h p unclosed told =
+        let (o, s) = segments-done img start (left (count + 1)) start p refl in
+        let byte : unclosed ≡ not (eqb (get_or img start 0) 0) = told ∙ rw (lt-ltb start stop (omega (arith, g.place))) in
+        ends unclosed (ap (unclosed_from img start) (one h) ∙ o ∙ sym byte) (λ f. ap (segments_at img start) (one h) ∙ s (sym byte ∙ f))

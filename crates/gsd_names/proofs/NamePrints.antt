@@ -13,8 +13,8 @@ use borrow.Author.Tests.{eqb-false}
 use Rattle.gsd_format.specs.Names.{bytes_of}
 use Rattle.gsd_format.specs.Opening.{twins}
 use Rattle.gsd_format.proofs.Refusals.{neither}
-use Rattle.gsd_names.specs.NameLists.{part_at, Spans}
-use Rattle.gsd_names.specs.NamePrints.{small_print, print_of, Printed, Telling, Paired, among}
+use Rattle.gsd_names.specs.NameLists.{part_at}
+use Rattle.gsd_names.specs.NamePrints.{small_print, Printed, Telling, Paired, among}
 use Rattle.gsd_names.proofs.NameLists.{names, twins-apart}
 
 -- an empty name's
@@ -25,31 +25,31 @@ small-none (x ∷ b) e = absurd (omega arith)
 
 -- Prints kept one by one
 
-pub printed-none : (whole v : Bool) (img starts prints : List ℕ) → Printed whole v img starts 0 prints
-printed-none whole v img starts prints = record { each = λ i l. absurd (omega arith) }
+pub printed-none : (print : List ℕ → ℕ) (v : Bool) (img starts prints : List ℕ) → Printed print v img starts 0 prints
+printed-none print v img starts prints = record { each = λ i l. absurd (omega arith) }
 
-pub printed-more : (whole v : Bool) (img starts prints : List ℕ) (i r : ℕ) → i < length prints → Printed whole v img starts i prints →
-    r ≡ print_of whole (bytes_of img (part_at v starts i)) → Printed whole v img starts (i + 1) (set prints i r)
-printed-more whole v img starts prints i r l h e = record {
-  each = below_more (λ k. get_or (set prints i r) k 0 ≡ print_of whole (bytes_of img (part_at v starts k))) i
+pub printed-more : (print : List ℕ → ℕ) (v : Bool) (img starts prints : List ℕ) (i r : ℕ) → i < length prints → Printed print v img starts i prints →
+    r ≡ print (bytes_of img (part_at v starts i)) → Printed print v img starts (i + 1) (set prints i r)
+printed-more print v img starts prints i r l h e = record {
+  each = below_more (λ k. get_or (set prints i r) k 0 ≡ print (bytes_of img (part_at v starts k))) i
       (λ k m. get_or-set_other prints i k r 0 (λ q. omega arith) ∙ h.each k m)
       (get_or-set_same prints i r 0 l ∙ e);
 }
 
 -- equal names have equal prints
-pub printed-tell : (whole v : Bool) (img starts : List ℕ) (count : ℕ) (prints : List ℕ) → count ≤ length prints →
-    Printed whole v img starts count prints → Telling v img starts count prints
-printed-tell whole v img starts count prints l h = record { room = l; tell = λ i j a b e. h.each i a ∙ ap (print_of whole) e ∙ sym (h.each j b) }
+pub printed-tell : (print : List ℕ → ℕ) (v : Bool) (img starts : List ℕ) (count : ℕ) (prints : List ℕ) → count ≤ length prints →
+    Printed print v img starts count prints → Telling v img starts count prints
+printed-tell print v img starts count prints l h = record { room = l; tell = λ i j a b e. h.each i a ∙ ap (print) e ∙ sym (h.each j b) }
 
 -- all are kept
-pub printed-all : (whole v : Bool) (img starts prints : List ℕ) (i count : ℕ) → count ≤ i → i ≤ count → Printed whole v img starts i prints →
-    Printed whole v img starts count prints
-printed-all whole v img starts prints i count l m h = record { each = λ k n. h.each k (omega arith) }
+pub printed-all : (print : List ℕ → ℕ) (v : Bool) (img starts prints : List ℕ) (i count : ℕ) → count ≤ i → i ≤ count → Printed print v img starts i prints →
+    Printed print v img starts count prints
+printed-all print v img starts prints i count l m h = record { each = λ k n. h.each k (omega arith) }
 
-pub paired : (v : Bool) (img starts : List ℕ) (count : ℕ) (prints : List ℕ) (i j : ℕ) → Spans v starts count (length img) →
-    Telling v img starts count prints → i < count → j < count → Paired v img starts prints i j
-paired v img starts count prints i j h t a b = record {
-  kept = (h i a, h j b);
+pub paired : (v : Bool) (img starts : List ℕ) (count : ℕ) (prints : List ℕ) (i j : ℕ) →
+    Telling v img starts count prints → i < count → j < count → Paired v img starts count prints i j
+paired v img starts count prints i j t a b = record {
+  kept = (a, b);
   room = (omega (arith, t.room), omega (arith, t.room));
   tell = t.tell i j a b;
 }

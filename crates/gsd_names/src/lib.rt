@@ -3,11 +3,13 @@
 #![tactic(auto)]
 
 mod list;
+mod names;
 mod number;
 mod prints;
 mod search;
 mod twins;
 
-pub use list::{NameList, PLACES, name_list, name_part};
-pub use number::names_number;
-pub use search::{name_id, same_name};
+pub use list::{NameList, PLACES, name_list};
+pub use names::Names;
+pub use number::checked_names;
+pub use search::same_name;

@@ -1,18 +1,16 @@
-// The names of a block, found in one pass as the places behind them, and the bytes and the place of each. The version says
-// where a name starts: behind the one before it, or in 1.0 at a segment of its own.
-ghost use Rattle.std.specs.Prelude.{◌≡◌, true, false, not, ◌&&◌, ◌+◌, ◌*◌, ◌≤◌, ◌<◌, length, get_or, set, ltb, eqb};
+// The names of a block, found in one pass as the places behind them. The version says where a name starts: behind the one
+// before it, or in 1.0 at a segment of its own.
+ghost use Rattle.std.specs.Prelude.{◌≡◌, true, false, not, ◌&&◌, ◌+◌, ◌*◌, ◌≤◌, ◌<◌, length, get_or, set, ltb, eqb, MatchOption};
 ghost use Rattle.gsd_format.specs.Header.{v10, greatest_length};
-ghost use Rattle.gsd_format.specs.Names.{bytes_of};
-ghost use Rattle.gsd_format.specs.Opening.{most_names};
-ghost use Rattle.gsd_names.specs.NameLists.{start_at, part_at, Past, Span, NamesFound};
+ghost use Rattle.gsd_names.specs.NameLists.{Past, NamesFound};
 
 use gsd_bytes::{SEGMENT_SIZE, is_10};
-use gsd_format::{Layout, Part};
+use gsd_format::Layout;
 
 // The block's place, and one behind each of the names that there may be.
 pub const PLACES: usize = 1025;
 
-const SEGMENT: usize = SEGMENT_SIZE as usize;
+pub(crate) const SEGMENT: usize = SEGMENT_SIZE as usize;
 
 // The names of a name block: their number, where their list ends, and whether a name is not closed, which makes the others
 // void. Their places are kept beside it, in an array `starts`: that of the block, and where there are at most 1,024 names
@@ -21,13 +19,13 @@ const SEGMENT: usize = SEGMENT_SIZE as usize;
 pub struct NameList {
     pub count: usize,
     pub list_end: usize,
+    // No refusal: name_list answers of every block, and NamesFound says what of one with an open name.
     pub open: bool,
 }
 
-// One place more is kept, where there is room.
+// One place more is kept, where there is room. The test stands here: of an array behind get_mut a proof knows the length only.
 fn keep(starts: &mut [u32; PLACES], i: usize, at: usize)
-    requires short { at ≤ greatest_length }
-    requires places { length starts.old ≡ most_names + 1 }
+    requires { at ≤ greatest_length }
     ensures { starts.new ≡ set starts.old i at }
 {
     if i < PLACES {
@@ -35,22 +33,24 @@ fn keep(starts: &mut [u32; PLACES], i: usize, at: usize)
     }
 }
 
-// Behind the zero of the name that starts here, or here where no name is closed before stop.
-fn past_name(image: &[u8], start: usize, stop: usize) -> usize
+// Behind the zero of the name that starts here, where one is closed before stop.
+fn past_name(image: &[u8], start: usize, stop: usize) -> Option<usize>
     requires ordered { start ≤ stop }
     requires inside { stop ≤ length image.now }
-    ensures { Past image.now start stop result }
+    ensures { MatchOption result (Past image.now start stop start)
+        (λ next. (start < next) × Past image.now start stop next) }
 {
     let zero = gsd_bytes::first_zero(image, start, stop);
     if zero == start {
-        return start;
+        return None;
     }
     if zero == stop {
-        return start;
+        return None;
     }
-    zero + 1
+    Some(zero + 1)
 }
 
+// That the block lies in a short image is asked for here and below, as name_list asked for it: NamesFound is said of image and layout.
 // Does the block go on behind its names, with one that is not closed?
 fn goes_on(image: &[u8], l: Layout, end: usize) -> bool
     requires { l.namelist + 64 * l.segments ≤ length image.now }
@@ -62,29 +62,27 @@ fn goes_on(image: &[u8], l: Layout, end: usize) -> bool
     image[end] != 0
 }
 
-// 2.x: one pass over the block. A longer list is counted to its end too: 9 comes before 10.
+// 2.x: one pass over the block. A longer list is counted to its end too: 9 comes before 10. How many names there are is not
+// known before, so no range goes over them.
 fn joined_list(image: &[u8], l: Layout, starts: &mut [u32; PLACES]) -> NameList
     requires recent { v10 l.version ≡ false }
     requires inside { l.namelist + 64 * l.segments ≤ length image.now }
     requires short { length image.now ≤ greatest_length }
-    requires places { length starts.old ≡ most_names + 1 }
     ensures { NamesFound image.now l starts.new result }
 {
     let stop = (l.namelist + SEGMENT_SIZE * l.segments) as usize;
-    let mut start = l.namelist as usize;
-    keep(starts, 0, start);
+    let mut list_end = l.namelist as usize;
+    keep(starts, 0, list_end);
     let mut count = 0;
-    let mut next = past_name(image, start, stop);
-    while start < next {
+    while let Some(next) = past_name(image, list_end, stop) {
         count += 1;
-        start = next;
-        keep(starts, count, start);
-        next = past_name(image, start, stop);
+        keep(starts, count, next);
+        list_end = next;
     }
     NameList {
         count,
-        list_end: start,
-        open: goes_on(image, l, start),
+        list_end,
+        open: goes_on(image, l, list_end),
     }
 }
 
@@ -93,25 +91,26 @@ fn segment_list(image: &[u8], l: Layout, starts: &mut [u32; PLACES]) -> NameList
     requires segmented { v10 l.version ≡ true }
     requires inside { l.namelist + 64 * l.segments ≤ length image.now }
     requires short { length image.now ≤ greatest_length }
-    requires places { length starts.old ≡ most_names + 1 }
     ensures { NamesFound image.now l starts.new result }
 {
     let mut segment = l.namelist as usize;
     keep(starts, 0, segment);
-    let mut count = 0;
-    while count < l.segments as usize {
-        let next = past_name(image, segment, segment + SEGMENT);
-        if next == segment {
-            break;
-        }
-        count += 1;
-        keep(starts, count, next);
+    let segments = l.segments as usize;
+    for count in 0..segments {
+        let Some(next) = past_name(image, segment, segment + SEGMENT) else {
+            return NameList {
+                count,
+                list_end: segment,
+                open: goes_on(image, l, segment),
+            };
+        };
+        keep(starts, count + 1, next);
         segment += SEGMENT;
     }
     NameList {
-        count,
+        count: segments,
         list_end: segment,
-        open: goes_on(image, l, segment),
+        open: false,
     }
 }
 
@@ -119,58 +118,10 @@ fn segment_list(image: &[u8], l: Layout, starts: &mut [u32; PLACES]) -> NameList
 pub fn name_list(image: &[u8], l: Layout, starts: &mut [u32; PLACES]) -> NameList
     requires inside { l.namelist + 64 * l.segments ≤ length image.now }
     requires short { length image.now ≤ greatest_length }
-    requires places { length starts.old ≡ most_names + 1 }
     ensures { NamesFound image.now l starts.new result }
 {
     if is_10(l.version) {
         return segment_list(image, l, starts);
     }
     joined_list(image, l, starts)
-}
-
-fn place(x: u32) -> usize
-    ensures answer { result ≡ x }
-    ensures bound { result < 4294967296 }
-{
-    x as usize
-}
-
-// Where the i-th name starts.
-fn name_start(starts: &[u32; PLACES], v10: bool, i: usize) -> usize
-    requires { i < most_names }
-    ensures { result ≡ start_at v10 starts.now i }
-{
-    if v10 {
-        return place(starts[0]) + SEGMENT * i;
-    }
-    place(starts[i])
-}
-
-// Where the i-th name lies.
-pub fn name_part(starts: &[u32; PLACES], v10: bool, i: usize) -> Part
-    requires kept { i < most_names }
-    requires some { start_at v10 starts.now i < get_or starts.now (i + 1) 0 }
-    ensures { result ≡ part_at v10 starts.now i }
-{
-    let start = name_start(starts, v10, i);
-    let next = place(starts[i + 1]);
-    Part {
-        start,
-        size: next - 1 - start,
-    }
-}
-
-// The bytes of the i-th name.
-pub(crate) fn name_bytes<'a, 'b>(
-    image: &'a [u8],
-    starts: &'b [u32; PLACES],
-    v10: bool,
-    i: usize,
-) -> &'a [u8]
-    requires { Span v10 starts.now i (length image.now) }
-    ensures { result.now ≡ bytes_of image.now (part_at v10 starts.now i) }
-{
-    let start = name_start(starts, v10, i);
-    let end = place(starts[i + 1]) - 1;
-    &image[start..end]
 }

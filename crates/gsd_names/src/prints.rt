@@ -1,50 +1,51 @@
 // A print of each name: a number made of its bytes, so that names with two prints are two names.
-ghost use Rattle.std.specs.Prelude.{◌≡◌, ◌+◌, ◌-◌, ◌≤◌, ◌<◌, length, get_or};
-ghost use Rattle.gsd_names.specs.NameLists.{Spans};
-ghost use Rattle.gsd_names.specs.NamePrints.{small_print, print_of, Printed, among};
+ghost use Rattle.std.specs.Prelude.{◌≡◌, ℕ, List, ◌+◌, ◌-◌, ◌≤◌, ◌<◌, length, get_or};
+ghost use Rattle.gsd_fingerprint.specs.Fingerprint.{fingerprint};
+ghost use Rattle.gsd_names.specs.NamePrints.{small_print, Printed, among};
 
-use crate::list::{PLACES, name_bytes};
-use gsd_bytes::wide;
-use gsd_fingerprint::fingerprint;
+use crate::names::Names;
 
-// The size and the last byte, as one number.
-fn small_print(name: &[u8]) -> u32
-    ensures { result ≡ small_print name.now }
-{
-    let n = name.len();
-    if n == 0 {
-        return 0;
-    }
-    (256 * (n as u64 % 65536) + wide(name[n - 1])) as u32
+// A way to make a print of a name.
+pub(crate) trait Print {
+    ghost print: { List ℕ → ℕ };
+
+    fn of(name: &[u8]) -> u32
+        ensures { result ≡ print name.now };
 }
 
-// The print of all the bytes, or the small one.
-fn name_print(name: &[u8], whole: bool) -> u32
-    ensures { result ≡ print_of whole name.now }
-{
-    if whole {
-        return fingerprint(name);
+// The size and the last byte, as one number.
+pub(crate) struct Small;
+
+impl Print for Small {
+    ghost print = { small_print };
+
+    fn of(name: &[u8]) -> u32 {
+        let n = name.len();
+        if n == 0 {
+            return 0;
+        }
+        (256 * (n as u64 % 65536) + u64::from(name[n - 1])) as u32
     }
-    small_print(name)
+}
+
+// All the bytes.
+pub(crate) struct Whole;
+
+impl Print for Whole {
+    ghost print = { fingerprint };
+
+    fn of(name: &[u8]) -> u32 {
+        gsd_fingerprint::fingerprint(name)
+    }
 }
 
 // Each name's print goes to its place in prints.
-pub(crate) fn name_prints(
-    image: &[u8],
-    starts: &[u32; PLACES],
-    v10: bool,
-    count: usize,
-    whole: bool,
-    prints: &mut [u32],
-)
-    requires spans { Spans v10 starts.now count (length image.now) }
-    requires room { count ≤ length prints.old }
-    ensures { Printed whole v10 image.now starts.now count prints.new }
+pub(crate) fn name_prints<P: Print>(names: &Names<'_>, prints: &mut [u32])
+    requires { names.now.count ≤ length prints.old }
+    ensures { Printed P.print names.now.v10 names.now.image.now names.now.starts.now names.now.count prints.new }
 {
-    let mut i = 0;
-    while i < count {
-        prints[i] = name_print(name_bytes(image, starts, v10, i), whole);
-        i += 1;
+    for i in 0..names.count {
+        prints[i] = P::of(names.bytes(i));
     }
 }
 
@@ -56,10 +57,8 @@ pub(crate) fn echoed(prints: &[u32], i: usize, count: usize) -> bool
 {
     let print = prints[i];
     let mut found = false;
-    let mut j = i + 1;
-    while j < count {
-        found = found | (prints[j] == print);
-        j += 1;
+    for j in i + 1..count {
+        found |= prints[j] == print;
     }
     found
 }

@@ -1,10 +1,10 @@
 // A name sought among those listed.
-ghost use Rattle.std.specs.Prelude.{◌≡◌, length};
+ghost use Rattle.std.specs.Prelude.{◌≡◌, ◌<◌, MatchOption};
 ghost use Rattle.gsd_format.specs.Bytes.{same};
 ghost use Rattle.gsd_format.specs.Names.{index_of};
-ghost use Rattle.gsd_names.specs.NameLists.{names_in, Spans};
+ghost use Rattle.gsd_names.specs.NameLists.{names_in};
 
-use crate::list::{PLACES, name_bytes};
+use crate::names::Names;
 
 // Names often have their front in common, so the last byte is looked at first.
 pub fn same_name(a: &[u8], b: &[u8]) -> bool
@@ -23,17 +23,18 @@ pub fn same_name(a: &[u8], b: &[u8]) -> bool
     gsd_bytes::same_part(a, 0, b, 0, n)
 }
 
-// The id of a name, or count where it is not listed.
-pub fn name_id(image: &[u8], starts: &[u32; PLACES], v10: bool, count: usize, name: &[u8]) -> usize
-    requires { Spans v10 starts.now count (length image.now) }
-    ensures { result ≡ index_of name.now (names_in v10 image.now starts.now count) }
-{
-    let mut i = 0;
-    while i < count {
-        if same_name(name, name_bytes(image, starts, v10, i)) {
-            return i;
+impl Names<'_> {
+    // The id of a name, where it is listed.
+    pub fn id_of(&self, name: &[u8]) -> Option<usize>
+        ensures { MatchOption result
+            (self.now.count ≡ index_of name.now (names_in self.now.v10 self.now.image.now self.now.starts.now self.now.count))
+            (λ i. (i < self.now.count) × (i ≡ index_of name.now (names_in self.now.v10 self.now.image.now self.now.starts.now self.now.count))) }
+    {
+        for i in 0..self.count {
+            if same_name(name, self.bytes(i)) {
+                return Some(i);
+            }
         }
-        i += 1;
+        None
     }
-    i
 }

@@ -1,4 +1,5 @@
 -- A file that was written has the extremes and the data that the element call reads.
+use Rattle.std.specs.Prelude.{Result, Ok, Err}
 use Prim.Native.Nat.{ℕ, ◌+◌, ◌*◌, ◌^◌, ◌<◌}
 use mathlib.Core.Path.{◌≡◌, refl, sym, ◌∙◌, ap}
 use mathlib.Core.Bool.{Bool, true, false}
@@ -10,11 +11,10 @@ use lib.ListN.{length, get_or, length-append}
 use lib.Ieee.{Float, of_bits, to_bits, is_nan, top}
 use lib.Ieee.Bits.{to_bits-of_bits}
 use Rattle.gsd_format.specs.declared.Entry.{Entry}
-use Rattle.gsd_format.specs.declared.Listed.{Listed}
 use Rattle.gsd_format.specs.Types.{size_of}
 use Rattle.gsd_format.specs.Lookup.{lookup}
 use Rattle.gsd_format.specs.Elements.{element_of, nan_element, element}
-use Rattle.gsd_format.specs.Answers.{element_values}
+use Rattle.gsd_format.specs.Answers.{number_values}
 use Rattle.gsd_format.specs.Calls.{bits_of}
 use Rattle.gsd_format.proofs.Bytes.{Octets, Text, le-bound}
 use Rattle.gsd_format.proofs.Texts.{text-front}
@@ -40,16 +40,16 @@ use Rattle.gsd_nchilada.proofs.Requests.{is-ready, was-accepted, of-found, of-re
 record Floats (kind : ℕ) : Type 0 where
   pub wide : 256 ^ size_of kind ≡ 2 * top (format_of kind)
   pub said : (bits : ℕ) → nan_element kind bits ≡ is_nan (of_bits (format_of kind) bits)
-  pub bits : (b : ℕ) → bits_in (element_of kind b) ≡ b
-  pub value : (b : ℕ) → float_in (element_of kind b) ≡ of_bits (format_of kind) b
+  pub bits : (b : ℕ) → bits_in (Ok (element_of kind b)) ≡ b
+  pub value : (b : ℕ) → float_in (Ok (element_of kind b)) ≡ of_bits (format_of kind) b
 
 singles : Floats 9
-unfolding size_of element_values float_in
-singles = record { wide = refl; said = nan-single; bits = λ b. ap bits_in (element-single b); value = λ b. ap float_in (element-single b) }
+unfolding size_of number_values float_in
+singles = record { wide = refl; said = nan-single; bits = λ b. ap (λ e. bits_in (Ok e)) (element-single b); value = λ b. ap (λ e. float_in (Ok e)) (element-single b) }
 
 doubles : Floats 10
-unfolding size_of element_values float_in
-doubles = record { wide = refl; said = nan-double; bits = λ b. ap bits_in (element-double b); value = λ b. ap float_in (element-double b) }
+unfolding size_of number_values float_in
+doubles = record { wide = refl; said = nan-double; bits = λ b. ap (λ e. bits_in (Ok e)) (element-double b); value = λ b. ap (λ e. float_in (Ok e)) (element-double b) }
 
 floats : (kind : ℕ) → floating kind ≡ true → Floats kind
 floats kind h = go (ℕ_discrete kind 9)
@@ -60,7 +60,7 @@ floats kind h = go (ℕ_discrete kind 9)
 
 -- An entry that was found and is ready
 
-module _ (img : List ℕ) (octets : Octets img) (frame : ℕ) (name : List ℕ) (e : Entry) (found : lookup img frame name ≡ Listed.Found e)
+module _ (img : List ℕ) (octets : Octets img) (frame : ℕ) (name : List ℕ) (e : Entry) (found : lookup img frame name ≡ Ok e)
     (step : Float) (room : ℕ) (ready : Ready img e room) where
   abbrev size : ℕ
   size = size_of e.kind
@@ -70,7 +70,7 @@ module _ (img : List ℕ) (octets : Octets img) (frame : ℕ) (name : List ℕ) 
 
   -- its elements
   module _ (k : ℕ) (l : k < e.n * e.m) where
-    element-is : element img frame name k ≡ element_of e.kind (bits_of img e k)
+    element-is : element img frame name k ≡ Ok (element_of e.kind (bits_of img e k))
     element-is = element-found img frame name k e found ∙ element-at img e k l
 
     bits_are : bits_in (element img frame name k) ≡ bits_of img e k
@@ -172,11 +172,11 @@ pub accepted-stands : (img : List ℕ) → Octets img → (frame : ℕ) (name : 
     nchilada_number img frame name step (length file) ≡ 0 → Stands img frame name (nchilada_file img frame name step file)
 accepted-stands img octets frame name step file h = go (lookup img frame name) refl
   where
-    go : (r : Listed) → lookup img frame name ≡ r → Stands img frame name (nchilada_file img frame name step file)
-    go (Listed.Found e) q =
+    go : (r : Result Entry ℕ) → lookup img frame name ≡ r → Stands img frame name (nchilada_file img frame name step file)
+    go (Ok e) q =
         let both = of-found img frame name step file e _ _ q refl refl in
         let passed : file_test img e step (length file) ≡ 0 = both.0 ∙ h in
         let is : nchilada_file img frame name step file ≡ file_of img e step =
         sym both.1 ∙ sym (was-accepted (file_test img e step (length file)) (file_of img e step) file (file_of img e step) (sym passed) refl) in
         ready-stands img octets frame name e q step (length file) (is-ready img e step (length file) (found-held img frame name e q) passed).0 _ is
-    go (Listed.Refused n) q = absurd (lookup-never-0 img frame name (q ∙ ap Listed.Refused ((of-refused img frame name step file n q).0 ∙ h)))
+    go (Err n) q = absurd (lookup-never-0 img frame name (q ∙ ap Err ((of-refused img frame name step file n q).0 ∙ h)))

@@ -1,4 +1,5 @@
 -- Laws of a request: the tests in their order, and what passing them leaves.
+use Rattle.std.specs.Prelude.{Ok, Err}
 use Prim.Native.Nat.{ℕ, zero, suc, ◌+◌, ◌*◌, ◌≤◌, ◌<◌}
 use mathlib.Core.Path.{◌≡◌, refl, sym, ◌∙◌, ap}
 use mathlib.Core.Bool.{Bool, true, false, true≢false, not, ◌&&◌}
@@ -11,13 +12,14 @@ use lib.Dec.{eqb}
 use lib.Ieee.{Float}
 use borrow.Author.Tests.{eqb-true, eq-eqb, ne_eqb, not-false}
 use Rattle.gsd_format.specs.declared.Entry.{Entry}
-use Rattle.gsd_format.specs.declared.Listed.{Listed}
+use Rattle.gsd_format.specs.declared.refusal.Refusal.{Refusal}
 use Rattle.gsd_format.specs.Header.{greatest_length}
 use Rattle.gsd_format.specs.Types.{size_of}
 use Rattle.gsd_format.specs.Refusals.{◌⇒◌, ◌▹◌}
 use Rattle.gsd_format.specs.Elements.{any_nan}
 use Rattle.gsd_format.specs.Lookup.{lookup}
-use Rattle.gsd_format.proofs.Refusals.{both, unmet, passed, decides, goes_on, met, both_true, not-of}
+use Rattle.gsd_format.specs.Answers.{refusal_number}
+use Rattle.gsd_format.proofs.Refusals.{both, unmet, passed, decides, goes_on, met, both_true, not-of, refusal-some}
 use Rattle.gsd_elements.specs.Held.{Held}
 use Rattle.gsd_elements.proofs.Elements.{few-elements}
 use Rattle.gsd_body.specs.Body.{one_or_three}
@@ -150,10 +152,10 @@ ready-as img e room r kind k = (
 pub ready-room : (img : List ℕ) (e : Entry) (room other : ℕ) → Ready img e room → other ≡ room → Ready img e other
 ready-room img e room other r q = rw q r
 
-pub not-accepted : (number n : ℕ) (new old : List ℕ) → number ≡ n → (number ≡ 0 → ⊥) → old ≡ accepted n new old
+pub not-accepted : (why : Refusal) (n : ℕ) (new old : List ℕ) → refusal_number why ≡ n → old ≡ accepted n new old
 unfolding accepted
-not-accepted number zero new old e h = absurd (h e)
-not-accepted number (suc n) new old e h = refl
+not-accepted why zero new old e = absurd (omega (arith, refusal-some why))
+not-accepted why (suc n) new old e = refl
 
 pub was-accepted : (n : ℕ) (new old file : List ℕ) → 0 ≡ n → file ≡ new → file ≡ accepted n new old
 unfolding accepted
@@ -161,13 +163,13 @@ was-accepted zero new old file e h = h
 was-accepted (suc n) new old file e h = absurd (omega (arith, e))
 
 module _ (img : List ℕ) (frame : ℕ) (name : List ℕ) (step : Float) (file : List ℕ) where
-  pub of-found : (e : Entry) (number : ℕ) (after : List ℕ) → lookup img frame name ≡ Listed.Found e → number ≡ file_test img e step (length file) →
+  pub of-found : (e : Entry) (number : ℕ) (after : List ℕ) → lookup img frame name ≡ Ok e → number ≡ file_test img e step (length file) →
       after ≡ accepted (file_test img e step (length file)) (file_of img e step) file →
       (number ≡ nchilada_number img frame name step (length file)) × (after ≡ nchilada_file img frame name step file)
   unfolding nchilada_number nchilada_file
   of-found e number after h p q = (rw (h, nchilada_number) p, rw (h, nchilada_file) q)
 
-  pub of-refused : (n : ℕ) → lookup img frame name ≡ Listed.Refused n →
+  pub of-refused : (n : ℕ) → lookup img frame name ≡ Err n →
       (n ≡ nchilada_number img frame name step (length file)) × (file ≡ nchilada_file img frame name step file)
   unfolding nchilada_number nchilada_file
   of-refused n h = (rw (h, nchilada_number), rw (h, nchilada_file))

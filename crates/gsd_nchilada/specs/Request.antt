@@ -1,9 +1,8 @@
 -- A request for an NChilada file: its number, test by test in their order, and what the lent bytes are afterwards.
-use Rattle.std.specs.Prelude.{ℕ, zero, suc, ◌*◌, ◌%◌, ◌^◌, List, Bool, not, ◌&&◌, ◌||◌, length, ltb, eqb, Float}
+use Rattle.std.specs.Prelude.{ℕ, zero, suc, ◌*◌, ◌%◌, ◌^◌, List, Bool, not, ◌&&◌, ◌||◌, length, ltb, eqb, Float, Ok, Err}
 use Rattle.std.specs.Float.{binary64}
 use Rattle.std.specs.Float.Ieee.{to_bits}
 use Rattle.gsd_format.specs.declared.Entry.{Entry}
-use Rattle.gsd_format.specs.declared.Listed.{Listed}
 use Rattle.gsd_format.specs.Refusals.{◌⇒◌, ◌▹◌}
 use Rattle.gsd_format.specs.Elements.{any_nan}
 use Rattle.gsd_format.specs.Lookup.{lookup}
@@ -35,12 +34,12 @@ accepted (suc n) new old = old
 -- the image's and the lookup's numbers come first; a refusal writes nothing
 unfoldable pub nchilada_number : List ℕ → ℕ → List ℕ → Float → ℕ → ℕ
 nchilada_number img frame name step room = elim (lookup img frame name) [
-  | Listed.Found e ↦ file_test img e step room
-  | Listed.Refused n ↦ n
+  | Ok e ↦ file_test img e step room
+  | Err n ↦ n
 ]
 
 unfoldable pub nchilada_file : List ℕ → ℕ → List ℕ → Float → List ℕ → List ℕ
 nchilada_file img frame name step file = elim (lookup img frame name) [
-  | Listed.Found e ↦ accepted (file_test img e step (length file)) (file_of img e step) file
-  | Listed.Refused n ↦ file
+  | Ok e ↦ accepted (file_test img e step (length file)) (file_of img e step) file
+  | Err n ↦ file
 ]

@@ -7,9 +7,9 @@ ghost use Rattle.gsd_nchilada.specs.File.{time_of, head_of};
 ghost use Rattle.gsd_nchilada.specs.Request.{finite};
 
 use gsd_format::Entry;
-use gsd_xdr::{put_be32, put_be64};
+use gsd_xdr::Number;
 
-const MAGIC: u64 = 1062053;
+const MAGIC: u32 = 1062053;
 
 // The time of a frame, whose number is a double as it is.
 pub fn time_of(frame: u64, step: f64) -> f64
@@ -19,14 +19,11 @@ pub fn time_of(frame: u64, step: f64) -> f64
     frame as f64 * step
 }
 
-// Neither infinite nor a NaN, by its bits; those of a NaN cannot be asked for.
+// Neither infinite nor a NaN.
 pub fn is_finite(x: f64) -> bool
     ensures { result ≡ finite x }
 {
-    if x != x {
-        return false;
-    }
-    f64::to_bits(x) % 0x8000_0000_0000_0000 < 0x7ff0_0000_0000_0000
+    x.is_finite()
 }
 
 // N, M and the type. The high and the low word of N are its eight bytes.
@@ -34,9 +31,9 @@ fn put_shape(file: &mut [u8], e: Entry)
     requires { 28 ≤ length file.old }
     ensures { file.new ≡ stored file.old 12 (be_bytes 8 e.n ++ be_bytes 4 e.m ++ be_bytes 4 e.kind) }
 {
-    put_be64(file, 12, e.n);
-    put_be32(file, 20, e.m as u64);
-    put_be32(file, 24, e.kind as u64);
+    e.n.put_be(file, 12);
+    e.m.put_be(file, 20);
+    (e.kind as u32).put_be(file, 24);
 }
 
 // The 28 bytes; a time that is a NaN has no bits.
@@ -45,7 +42,7 @@ pub fn put_head(file: &mut [u8], e: Entry, time: f64)
     requires number { T (not (is_nan time)) }
     ensures { file.new ≡ stored file.old 0 (head_of e time) }
 {
-    put_be32(file, 0, MAGIC);
-    put_be64(file, 4, f64::to_bits(time));
+    MAGIC.put_be(file, 0);
+    f64::to_bits(time).put_be(file, 4);
     put_shape(file, e);
 }

@@ -12,12 +12,14 @@ use lib.Dec.{ltb, eqb}
 use borrow.Author.Tests.{lt-ltb, le-ltb, ltb-false, leb-false, ne_eqb}
 use Rattle.gsd_format.specs.declared.Entry.{Entry}
 use Rattle.gsd_format.specs.declared.Layout.{Layout}
+use Rattle.gsd_format.specs.declared.refusal.Refusal.{Refusal}
+use Rattle.gsd_format.specs.Answers.{refusal_number}
 use Rattle.gsd_format.specs.Types.{chunk_size}
 use Rattle.gsd_format.specs.Refusals.{◌▹◌}
 use Rattle.gsd_format.specs.Header.{v10, header_size, greatest_length}
 use Rattle.gsd_format.specs.Entries.{key_of, key}
-use Rattle.gsd_format.specs.Opening.{most_names, greatest_frame, misplaced, entry_test}
-use Rattle.gsd_format.proofs.Refusals.{▹-assoc, left-holds, stays, decides, both, unmet, neither, neither-of}
+use Rattle.gsd_format.specs.Opening.{most_names, greatest_frame, misplaced, entry_test, entries_test}
+use Rattle.gsd_format.proofs.Refusals.{▹-assoc, first_of, last_of, left-holds, stays, decides, goes_on, met, both, unmet, less-no, neither, neither-of, refusal-some}
 use Rattle.gsd_format.proofs.Arranged.{least_of, ShortLast, misplaced-recent, misplaced-10}
 use Rattle.gsd_format.proofs.Walk.{Walked, walked_none, walked_more, walked_all, walked-bad}
 use Rattle.gsd_format.proofs.Verdict.{Sound, entry_zero}
@@ -68,7 +70,7 @@ pub capped-chunk : (n m size x y : ℕ) → x ≡ cut n → y ≡ cut (m * size)
 capped-chunk n m size x y p q = rw (p, q, mul_assoc) (capped-product n (m * size))
 
 -- beyond every slice the very size does not matter
-pub room-capped : (l : Layout) (a whole r : ℕ) → l.len ≤ greatest_length → Capped whole r → room_test l a whole ≡ room_test l a r
+room-capped : (l : Layout) (a whole r : ℕ) → l.len ≤ greatest_length → Capped whole r → room_test l a whole ≡ room_test l a r
 unfolding room_test
 room-capped l a whole r b c = go (dec_lt greatest_length whole)
   where
@@ -95,10 +97,6 @@ fields-place version names e h = leb-false (2 ^ 63) e.location (neither (ltb e.l
 pub fields-id : (version names : ℕ) (e : Entry) → fields_test version names e ≡ 0 → e.id < names
 unfolding fields_test
 fields-id version names e h = leb-false names e.id (unmet _ 13 (both _ _ (both _ _ h).1).1)
-
--- 18 is behind everything: it is never 0
-pub late-some : (n r : ℕ) → r ≡ n ▹ 18 → r ≡ 0 → ⊥
-late-some n r e z = let q : ◌≡◌ {A = ℕ} 18 0 = (both n 18 (sym e ∙ z)).1 in omega arith
 
 -- 15 by what the walk keeps
 
@@ -129,7 +127,7 @@ noted-long version last e = go (v10 version) refl
     go false r = ap length (noted-recent version r last e)
 
 -- an entry above the greatest frame is never misplaced: no frame that was noted is as high
-pub place-late : (version least : ℕ) (last : List ℕ) (e : Entry) → least ≤ keys_end → get_or last e.id 0 < 2 ^ 32 → greatest_frame < e.frame →
+place-late : (version least : ℕ) (last : List ℕ) (e : Entry) → least ≤ keys_end → get_or last e.id 0 < 2 ^ 32 → greatest_frame < e.frame →
     misplaced_by version least last e ≡ false
 place-late version least last e h b late = go (v10 version) refl
   where
@@ -138,6 +136,20 @@ place-late version least last e h b late = go (v10 version) refl
         place-10 version r least last e
         ∙ neither-of _ _ (le-ltb (key_of (e.frame + 1) 0) least (omega arith)) (ne_eqb (get_or last e.id 0) (e.frame + 1) (λ q. omega arith))
     go false r = place-recent version r least last e ∙ le-ltb (key e) least (omega arith)
+
+-- the entry's test where 12 to 14 do not refuse it, by its frame
+module _ (l : Layout) (names least : ℕ) (last : List ℕ) (e : Entry) (size : ℕ) (short : l.len ≤ greatest_length) where
+  pub late-test : least ≤ keys_end → get_or last e.id 0 < 2 ^ 32 → Capped (chunk_size e) size → fields_test l.version names e ≡ 0 →
+      greatest_frame < e.frame → entry_test_by l names least last e ≡ room_test l e.location size ▹ 18
+  late-test h b sized good late =
+      entry-by l names least last e ∙ first_of _ _ good ∙ goes_on _ 15 _ (place-late l.version least last e h b late)
+      ∙ (λ i. room-capped l e.location (chunk_size e) size short sized i ▹ met _ 18 (lt-ltb greatest_frame e.frame late) i)
+
+  pub early-test : Capped (chunk_size e) size → fields_test l.version names e ≡ 0 → misplaced_by l.version least last e ≡ false →
+      e.frame ≤ greatest_frame → entry_test_by l names least last e ≡ room_test l e.location size
+  early-test sized good placed early =
+      entry-by l names least last e ∙ first_of _ _ good ∙ goes_on _ 15 _ placed ∙ last_of _ _ (less-no greatest_frame e.frame 18 early)
+      ∙ room-capped l e.location (chunk_size e) size short sized
 
 -- The entries passed, the last of them first: what the walk keeps tells of them all that 15 asks
 pub record Passed (l : Layout) (names : ℕ) (all : List Entry) (least end many : ℕ) (last : List ℕ) (rest : List Entry) : Type 0 where
@@ -193,9 +205,9 @@ module _ (l : Layout) (names : ℕ) (few : names ≤ most_names) (all : List Ent
       go (yes z) = ap (λ t. entry_test_if l names t e) (place-told (fields-id l.version names e z))
       go (no n) = stays _ _ n ∙ sym (stays _ _ n)
 
-  module _ (number : ℕ) (said : number ≡ entry_test_by l names least last e) (none : number ≡ 0) where
+  module _ (said : 0 ≡ entry_test_by l names least last e) where
     pub told-good : entry_test l names p.before e ≡ 0
-    told-good = sym test-told ∙ sym said ∙ none
+    told-good = sym (said ∙ test-told)
 
     pub told-sound : Sound l names e
     told-sound = ((entry_zero l names p.before e).0 told-good).0
@@ -234,20 +246,15 @@ module _ (l : Layout) (names : ℕ) (few : names ≤ most_names) (all : List Ent
 
 -- The walk's two ways out
 
-pub walk_ends : (l : Layout) (names : ℕ) (all : List Entry) (least end many : ℕ) (last : List ℕ) (rest : List Entry) (number : ℕ) →
-    Passed l names all least end many last rest → rest ≡ [] → number ≡ 0 →
-    Walks l names all (record { number = number; entries = many; least = least; chunks_end = end })
-walk_ends l names all least end many last rest number p z n =
+pub walk_ends : (l : Layout) (names : ℕ) (all : List Entry) (least end many : ℕ) (last : List ℕ) (rest : List Entry) →
+    Passed l names all least end many last rest → rest ≡ [] →
+    (0 ≡ entries_test l names [] all) × Walks all (record { entries = many; least = least; chunks_end = end })
+walk_ends l names all least end many last rest p z =
     let a = walked_all l names all p.before (frames_to least) end many rest p.walked z in
-    record { number = n ∙ sym a.0; entries = λ _. sym a.1; high = p.high; frames = λ _. sym a.2; chunks = λ _. sym a.3 }
+    (sym a.0, record { entries = sym a.1; high = p.high; frames = sym a.2; chunks = sym a.3 })
 
 pub walk-refuses : (l : Layout) (names : ℕ) (all : List Entry) (least end many : ℕ) (last : List ℕ) (rest : List Entry) (e : Entry) (es : List Entry)
-    (number : ℕ) (p : Passed l names all least end many last rest) → rest ≡ e ∷ es → number ≡ entry_test l names p.before e → (number ≡ 0 → ⊥) →
-    Walks l names all (record { number = number; entries = many; least = least; chunks_end = end })
-walk-refuses l names all least end many last rest e es number p q h n = record {
-  number = h ∙ sym (walked-bad l names all p.before (frames_to least) end many rest e es p.walked q (λ z. n (h ∙ z)));
-  entries = λ z. absurd (n z);
-  high = p.high;
-  frames = λ z. absurd (n z);
-  chunks = λ z. absurd (n z);
-}
+    (r : Refusal) (p : Passed l names all least end many last rest) → rest ≡ e ∷ es → refusal_number r ≡ entry_test l names p.before e →
+    refusal_number r ≡ entries_test l names [] all
+walk-refuses l names all least end many last rest e es r p q h =
+    h ∙ sym (walked-bad l names all p.before (frames_to least) end many rest e es p.walked q (λ z. omega (arith, refusal-some r, h, z)))

@@ -1,5 +1,5 @@
 -- The tests of one index entry in parts, what the walk over the entries keeps on its way, and what it answers.
-use Rattle.std.specs.Prelude.{ℕ, ◌+◌, ◌*◌, ◌-◌, ◌/◌, ◌^◌, ◌≤◌, ◌<◌, ◌≡◌, Bool, true, false, not, ◌||◌, List, [], length, get_or, set, ltb, leb, eqb}
+use Rattle.std.specs.Prelude.{ℕ, ◌+◌, ◌*◌, ◌-◌, ◌/◌, ◌^◌, ◌≤◌, ◌<◌, ◌≡◌, Bool, true, false, not, ◌||◌, List, length, get_or, set, ltb, leb, eqb}
 use Rattle.gsd_format.specs.declared.Entry.{Entry}
 use Rattle.gsd_format.specs.declared.Layout.{Layout}
 use Rattle.gsd_format.specs.Bytes.{meets}
@@ -7,7 +7,7 @@ use Rattle.gsd_format.specs.Types.{known, chunk_size}
 use Rattle.gsd_format.specs.Refusals.{◌⇒◌, ◌▹◌}
 use Rattle.gsd_format.specs.Header.{v10, header_size, greatest_length}
 use Rattle.gsd_format.specs.Entries.{id_range, key_of, key, frames_of, chunks_end}
-use Rattle.gsd_format.specs.Opening.{most_names, greatest_frame, entries_test}
+use Rattle.gsd_format.specs.Opening.{most_names, greatest_frame}
 use Rattle.gsd_open.specs.declared.index.Walk.{Walk}
 
 -- above the key of every entry that passes: the most that can be least, which the walk keeps on its way, one more than the key
@@ -67,10 +67,9 @@ Places version n last = v10 version ≡ true → n ≤ length last
 abbrev pub Unnoted : ℕ → List ℕ → Type 0
 Unnoted version last = v10 version ≡ true → (length last ≡ most_names) × ((id : ℕ) → id < most_names → get_or last id 0 ≡ 0)
 
--- what the walk over the listed entries es answers
-pub record Walks (l : Layout) (names : ℕ) (es : List Entry) (r : Walk) : Type 0 where
-  pub number : r.number ≡ entries_test l names [] es
-  pub entries : r.number ≡ 0 → r.entries ≡ length es
+-- what the walk over the listed entries es finds, where it refuses none
+pub record Walks (es : List Entry) (r : Walk) : Type 0 where
+  pub entries : r.entries ≡ length es
   pub high : r.least ≤ keys_end
-  pub frames : r.number ≡ 0 → frames_to r.least ≡ frames_of es
-  pub chunks : r.number ≡ 0 → r.chunks_end ≡ chunks_end es
+  pub frames : frames_to r.least ≡ frames_of es
+  pub chunks : r.chunks_end ≡ chunks_end es

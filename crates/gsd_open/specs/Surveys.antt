@@ -1,4 +1,4 @@
--- What the survey of an image answers: the opening's number, and of an image that opens all that a lookup or an append needs.
+-- What the survey finds of an image that opens: all that a lookup or an append needs.
 use Rattle.std.specs.Prelude.{◌≡◌, ℕ, List, length}
 use Rattle.gsd_format.specs.declared.Layout.{Layout}
 use Rattle.gsd_format.specs.Header.{layout_of}
@@ -13,11 +13,11 @@ pub record Laid (img : List ℕ) (l : Layout) : Type 0 where
   pub header : header_test img ≡ 0
   pub blocks : blocks_test l ≡ 0
 
--- all that is found of an image that opens; of a refused one only the number: the other fields, and starts, are free
+-- all that is found of an image that opens; of a refused one starts is free
 pub record Surveyed (img starts : List ℕ) (r : Survey) : Type 0 where
-  pub number : r.number ≡ verdict img
-  pub layout : r.number ≡ 0 → r.layout ≡ layout_of img
-  pub names : r.number ≡ 0 → NamesFound img (layout_of img) starts r.names
-  pub entries : r.number ≡ 0 → r.entries ≡ length (entries_of img)
-  pub frames : r.number ≡ 0 → r.frames ≡ frames_of (entries_of img)
-  pub chunks : r.number ≡ 0 → r.chunks_end ≡ chunks_end (entries_of img)
+  pub opens : verdict img ≡ 0
+  pub layout : r.layout ≡ layout_of img
+  pub names : NamesFound img (layout_of img) starts r.names
+  pub entries : r.entries ≡ length (entries_of img)
+  pub frames : r.frames ≡ frames_of (entries_of img)
+  pub chunks : r.chunks_end ≡ chunks_end (entries_of img)

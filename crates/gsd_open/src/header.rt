@@ -2,6 +2,7 @@
 ghost use Rattle.std.specs.Prelude.{◌≡◌, ◌+◌, ◌*◌, ◌≤◌, ◌<◌, not, ◌||◌, length, ltb};
 ghost use Rattle.gsd_format.specs.Bytes.{zero_in};
 ghost use Rattle.gsd_format.specs.Header.{supported, header_size, greatest_length, application_place, schema_place, text_size, layout_of};
+ghost use Rattle.gsd_format.specs.Answers.{refused};
 ghost use Rattle.gsd_format.specs.Opening.{header_test, blocks_test};
 
 use crate::refusal::refuse;
@@ -11,7 +12,7 @@ use gsd_bytes::{
     SCHEMA_PLACE, SEGMENT_SIZE, SEGMENTS_PLACE, SLOT_SIZE, SLOTS_PLACE, VERSION_2_0, VERSION_2_1,
     VERSION_PLACE, has_magic, has_zero, is_10, u32_at, u64_at,
 };
-use gsd_format::Layout;
+use gsd_format::{Layout, Refusal};
 
 // Is application or schema without a zero byte?
 fn text_open(image: &[u8]) -> bool
@@ -38,22 +39,22 @@ pub fn supported(version: u64) -> bool
 }
 
 // 1 to 5: the slice's length, the magic, the version, application and schema.
-pub(crate) fn header_number(image: &[u8]) -> u64
-    ensures { result ≡ header_test image.now }
+pub(crate) fn check_header(image: &[u8]) -> Result<(), Refusal>
+    ensures { refused result ≡ header_test image.now }
 {
     if image.len() < HEADER_SIZE as usize {
-        return 1;
+        return Err(Refusal::ShortImage);
     }
     if GREATEST_LENGTH < image.len() {
-        return 2;
+        return Err(Refusal::LongImage);
     }
     if !has_magic(image) {
-        return 3;
+        return Err(Refusal::WrongMagic);
     }
     if !supported(u32_at(image, VERSION_PLACE)) {
-        return 4;
+        return Err(Refusal::WrongVersion);
     }
-    refuse(text_open(image), 5)
+    refuse(text_open(image), Refusal::UnclosedText)
 }
 
 // The slice's length, the version and the four numbers of the two blocks.
@@ -86,16 +87,16 @@ fn outside(len: usize, start: u64, unit: u64, count: u64) -> bool
     (end - start) / unit < count
 }
 
-// 6 to 8: where the blocks lie.
-pub(crate) fn blocks_number(l: Layout) -> u64
+// 6 to 8: where the blocks lie. It is the test that makes a Placed, so it asks for the length itself.
+pub(crate) fn check_blocks(l: Layout) -> Result<(), Refusal>
     requires { l.len ≤ greatest_length }
-    ensures { result ≡ blocks_test l }
+    ensures { refused result ≡ blocks_test l }
 {
     if outside(l.len, l.index, SLOT_SIZE, l.slots) {
-        return 6;
+        return Err(Refusal::IndexOutside);
     }
     if outside(l.len, l.namelist, SEGMENT_SIZE, l.segments) {
-        return 7;
+        return Err(Refusal::NamesOutside);
     }
     let meet = share(
         l.index,
@@ -103,5 +104,5 @@ pub(crate) fn blocks_number(l: Layout) -> u64
         l.namelist,
         SEGMENT_SIZE * l.segments,
     );
-    refuse(meet, 8)
+    refuse(meet, Refusal::BlocksOverlap)
 }

@@ -1,13 +1,16 @@
-// A refusal's number.
+// A test that decides alone.
 ghost use Rattle.std.specs.Prelude.{◌≡◌};
+ghost use Rattle.gsd_format.specs.Answers.{refusal_number, refused};
 ghost use Rattle.gsd_format.specs.Refusals.{◌⇒◌};
 
-// The number where the test holds, else 0: the last of a chain of tests.
-pub(crate) fn refuse(test: bool, number: u64) -> u64
-    ensures { result ≡ (test ⇒ number) }
+use gsd_format::Refusal;
+
+// Refused where the test holds: the last of a chain of tests, which four functions end with.
+pub(crate) fn refuse(test: bool, why: Refusal) -> Result<(), Refusal>
+    ensures { refused result ≡ (test ⇒ refusal_number why) }
 {
     if test {
-        return number;
+        return Err(why);
     }
-    0
+    Ok(())
 }

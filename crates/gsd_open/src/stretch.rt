@@ -1,26 +1,6 @@
 // Stretches of bytes, a start and a count.
-ghost use Rattle.std.specs.Prelude.{◌≡◌, ◌+◌, ◌^◌, ◌<◌, max, min};
+ghost use Rattle.std.specs.Prelude.{◌≡◌, ◌+◌, ◌^◌, ◌<◌};
 ghost use Rattle.gsd_format.specs.Bytes.{meets};
-
-// The greater of two.
-pub(crate) fn greater(a: u64, b: u64) -> u64
-    ensures { result ≡ max a b }
-{
-    if a < b {
-        return b;
-    }
-    a
-}
-
-// The lesser of two.
-pub(crate) fn lesser(a: u64, b: u64) -> u64
-    ensures { result ≡ min a b }
-{
-    if a < b {
-        return a;
-    }
-    b
-}
 
 // Do the n bytes from a and the m bytes from b have one in common?
 pub(crate) fn share(a: u64, n: u64, b: u64, m: u64) -> bool

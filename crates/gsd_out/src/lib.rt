@@ -1,147 +1,117 @@
 // Leaf code of the C interface: an answer's values go to a caller's out array, and nothing of a refusal. The number is
-// answered. A refusal's is never 0, and callers show that.
+// answered.
 #![tactic(auto)]
 
-ghost use Rattle.std.specs.Prelude.{◌≡◌};
-ghost use Rattle.gsd_format.specs.declared.Opening.{Opening};
-ghost use Rattle.gsd_format.specs.declared.Listed.{Listed};
-ghost use Rattle.gsd_format.specs.declared.Place.{Place};
-ghost use Rattle.gsd_format.specs.declared.Element.{Element};
-ghost use Rattle.gsd_format.specs.declared.Reading.{Reading};
-ghost use Rattle.gsd_format.specs.declared.Ident.{Ident};
-ghost use Rattle.gsd_format.specs.Answers.{opening_number, listed_number, place_number, element_number, bits64, reading_number, ident_number};
-ghost use Rattle.gsd_out.specs.Out.{opening_out, listed_out, place_out, element_out, reading_out, ident_out};
+ghost use Rattle.std.specs.Prelude.{◌≡◌, ℕ, List, [], ◌∷◌};
+ghost use Rattle.gsd_format.specs.Answers.{number_of, numbered, refused, counts_values, entry_values, part_values, number_values, reader_words};
+ghost use Rattle.gsd_out.specs.Out.{answer_out};
 
-use gsd_format::{Element, Ident, Listed, Opening, Place, Reading};
+use gsd_format::{Counts, Entry, Number, Part, Reader, Refusal};
+
+// What a call of the C interface hands out as N words.
+pub trait Words<const N: usize>: Drop {
+    ghost values: { Self → List ℕ };
+
+    fn words(self) -> [u64; N]
+        ensures { result ≡ values self };
+}
 
 // Frames, names, entries.
-pub fn put_counts(answer: Opening, out: &mut [u64; 3]) -> u64
-    requires { answer ≡ Opening.Refused 0 → ⊥ }
-    ensures number { result ≡ opening_number answer }
-    ensures out { out.new ≡ opening_out answer out.old }
-{
-    match answer {
-        Opening::Open(c) => {
-            *out = [c.frames, c.names, c.entries];
-            0
-        }
-        Opening::Refused(number) => number,
+impl Words<3> for Counts {
+    ghost values = { counts_values };
+
+    fn words(self) -> [u64; 3] {
+        [self.frames, self.names, self.entries]
     }
 }
 
 // The seven numbers of an entry.
-pub fn put_entry(answer: Listed, out: &mut [u64; 7]) -> u64
-    requires { answer ≡ Listed.Refused 0 → ⊥ }
-    ensures number { result ≡ listed_number answer }
-    ensures out { out.new ≡ listed_out answer out.old }
-{
-    match answer {
-        Listed::Found(e) => {
-            *out = [
-                e.frame,
-                e.n,
-                e.location,
-                e.m as u64,
-                e.id as u64,
-                e.kind as u64,
-                e.flags as u64,
-            ];
-            0
-        }
-        Listed::Refused(number) => number,
-    }
-}
+impl Words<7> for Entry {
+    ghost values = { entry_values };
 
-// The number alone.
-pub fn listed_number(answer: Listed) -> u64
-    ensures { result ≡ listed_number answer }
-{
-    match answer {
-        Listed::Found(_) => 0,
-        Listed::Refused(n) => n,
+    fn words(self) -> [u64; 7] {
+        [
+            self.frame,
+            self.n,
+            self.location,
+            self.m as u64,
+            self.id as u64,
+            self.kind as u64,
+            self.flags as u64,
+        ]
     }
 }
 
 // Start and length.
-pub fn put_part(answer: Place, out: &mut [u64; 2]) -> u64
-    requires { answer ≡ Place.Refused 0 → ⊥ }
-    ensures number { result ≡ place_number answer }
-    ensures out { out.new ≡ place_out answer out.old }
-{
-    match answer {
-        Place::At(p) => {
-            *out = [p.start as u64, p.size as u64];
-            0
-        }
-        Place::Refused(number) => number,
-    }
-}
+impl Words<2> for Part {
+    ghost values = { part_values };
 
-// Two's complement.
-fn bits_of(number: i64) -> u64
-    ensures { result ≡ bits64 number }
-{
-    if number < 0 {
-        return 18446744073709551615 - (-1 - number) as u64;
+    fn words(self) -> [u64; 2] {
+        [self.start as u64, self.size as u64]
     }
-    number as u64
 }
 
 // The kind and the bits.
-pub fn put_element(answer: Element, out: &mut [u64; 2]) -> u64
-    requires { answer ≡ Element.Refused 0 → ⊥ }
-    ensures number { result ≡ element_number answer }
-    ensures out { out.new ≡ element_out answer out.old }
-{
-    match answer {
-        Element::Unsigned(number) => {
-            *out = [1, number];
-            0
+impl Words<2> for Number {
+    ghost values = { number_values };
+
+    fn words(self) -> [u64; 2] {
+        match self {
+            Number::Unsigned(number) => [1, number],
+            Number::Signed(number) => [2, number.cast_unsigned()],
+            Number::Single { value: _, bits } => [3, bits as u64],
+            Number::Double { value: _, bits } => [4, bits],
         }
-        Element::Signed(number) => {
-            *out = [2, bits_of(number)];
-            0
-        }
-        Element::Single { value: _, bits } => {
-            *out = [3, bits as u64];
-            0
-        }
-        Element::Double { value: _, bits } => {
-            *out = [4, bits];
-            0
-        }
-        Element::Refused(number) => number,
     }
 }
 
 // The words of a reader, the last one spare.
-pub fn put_reader(answer: Reading, reader: &mut [u64; 8]) -> u64
-    requires { answer ≡ Reading.Refused 0 → ⊥ }
-    ensures number { result ≡ reading_number answer }
-    ensures out { reader.new ≡ reading_out answer reader.old }
-{
-    match answer {
-        Reading::Ready(r) => {
-            *reader = [
-                r.frames, r.names, r.entries, r.index, r.namelist, r.size, r.version, 0,
-            ];
-            0
-        }
-        Reading::Refused(number) => number,
+impl Words<8> for Reader {
+    ghost values = { reader_words };
+
+    fn words(self) -> [u64; 8] {
+        [
+            self.frames,
+            self.names,
+            self.entries,
+            self.index,
+            self.namelist,
+            self.size,
+            self.version,
+            0,
+        ]
     }
 }
 
 // A name's id.
-pub fn put_id(answer: Ident, out: &mut [u64; 1]) -> u64
-    requires { answer ≡ Ident.Refused 0 → ⊥ }
-    ensures number { result ≡ ident_number answer }
-    ensures out { out.new ≡ ident_out answer out.old }
+impl Words<1> for u64 {
+    ghost values = { λ id. id ∷ [] };
+
+    fn words(self) -> [u64; 1] {
+        [self]
+    }
+}
+
+// The number alone.
+pub fn number_of<T: Drop>(answer: Result<T, Refusal>) -> u64
+    ensures { result ≡ refused answer }
 {
     match answer {
-        Ident::Is(id) => {
-            *out = [id];
+        Ok(_) => 0,
+        Err(refusal) => refusal.number(),
+    }
+}
+
+// The number, and where it is 0 the values.
+pub fn put<T: Words<N>, const N: usize>(answer: Result<T, Refusal>, out: &mut [u64; N]) -> u64
+    ensures number { result ≡ number_of (numbered answer) }
+    ensures out { out.new ≡ answer_out T.values (numbered answer) out.old }
+{
+    match answer {
+        Ok(value) => {
+            *out = value.words();
             0
         }
-        Ident::Refused(number) => number,
+        Err(why) => why.number(),
     }
 }

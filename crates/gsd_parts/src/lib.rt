@@ -5,9 +5,10 @@
 ghost use Rattle.std.specs.Prelude.{◌≡◌, ◌+◌, ◌-◌, ◌≤◌, length};
 ghost use Rattle.gsd_format.specs.Bytes.{part};
 ghost use Rattle.gsd_format.specs.Lookup.{bytes_at};
+ghost use Rattle.gsd_format.specs.Answers.{numbered};
 ghost use Rattle.gsd_parts.specs.Parts.{Inside, LiesAt};
 
-use gsd_format::Place;
+use gsd_format::{Part, Refusal};
 
 // The bytes from start up to end, where they lie.
 fn stretch(image: &[u8], start: usize, end: usize) -> &[u8]
@@ -21,13 +22,13 @@ fn stretch(image: &[u8], start: usize, end: usize) -> &[u8]
 }
 
 // The part of the image at a place; a refusal's is empty.
-pub fn part_at(image: &[u8], place: Place) -> &[u8]
-    requires { Inside image.now place }
-    ensures result_value { result.now ≡ bytes_at image.now place }
-    ensures itself { LiesAt image.entry.ref_ptr place result.ref_ptr }
+pub fn part_at(image: &[u8], place: Result<Part, Refusal>) -> &[u8]
+    requires { Inside image.now (numbered place) }
+    ensures result_value { result.now ≡ bytes_at image.now (numbered place) }
+    ensures itself { LiesAt image.entry.ref_ptr (numbered place) result.ref_ptr }
 {
     match place {
-        Place::At(p) => stretch(image, p.start, p.start + p.size),
-        Place::Refused(_) => &image[0..0],
+        Ok(p) => stretch(image, p.start, p.start + p.size),
+        Err(_) => &image[0..0],
     }
 }

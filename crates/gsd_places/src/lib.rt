@@ -2,23 +2,16 @@
 // Its functions have a `requires`.
 #![tactic(auto)]
 
-ghost use Rattle.std.specs.Prelude.{◌≡◌, ◌+◌, ◌*◌, ◌≤◌, ◌<◌, max, length};
+ghost use Rattle.std.specs.Prelude.{◌≡◌, ◌+◌, ◌*◌, ◌≤◌, ◌<◌, max};
 ghost use Rattle.gsd_format.specs.Header.{header_size, greatest_length, aligned};
 ghost use Rattle.gsd_stores.specs.View.{index_end, namelist_end};
 ghost use Rattle.gsd_stores.specs.Plan.{grown};
-ghost use Rattle.gsd_sheet.specs.Columns.{plan_words};
 ghost use Rattle.gsd_places.specs.Places.{Laid, DataPlaced, NamesLaid, NamesPlaced};
 ghost use Rattle.gsd_places.specs.Sites.{new_count, behind_units, sites_of};
 
 use gsd_bytes::{HEADER_SIZE, SEGMENT_SIZE, SLOT_SIZE, rounded};
 use gsd_format::Layout;
-use gsd_sheet::{DATA_FROM, DATA_TO, NAME_FROM, NAME_TO, NEW_ROW};
-
-fn greater(a: u64, b: u64) -> u64
-    ensures { result ≡ max a b }
-{
-    if a < b { b } else { a }
-}
+use gsd_sheet::{DATA_FROM, DATA_TO, NAME_FROM, NAME_TO, NEW_ROW, PLAN_WORDS};
 
 // The end of use, from the layout and the end of the listed chunks.
 pub fn end_of_use(l: Layout, chunks: u64) -> u64
@@ -29,62 +22,58 @@ pub fn end_of_use(l: Layout, chunks: u64) -> u64
 {
     let index = l.index + SLOT_SIZE * l.slots;
     let names = l.namelist + SEGMENT_SIZE * l.segments;
-    rounded(greater(HEADER_SIZE, greater(index, greater(names, chunks))))
+    rounded(HEADER_SIZE.max(index.max(names.max(chunks))))
 }
 
-// Row by row from start on, each where a chunk may start and padded to whole words: the position behind the last.
-pub fn place_data(plan: &mut [u64], count: usize, start: u64) -> u64
-    requires long { length plan.old ≡ plan_words }
+// Row by row from start on, each where a chunk may start and padded to whole words: the position behind the last. Rounded as the definitions
+// round, here and in find_sites: std's `div_ceil` promises another term, and each place would show the two equal.
+pub fn place_data(plan: &mut [u64; PLAN_WORDS], count: usize, start: u64) -> u64
     requires laid { Laid plan.old count }
     requires start { start < 4611686018427387904 }
     ensures { DataPlaced plan.old count start result plan.new }
 {
     let mut position = start;
-    let mut i = 0;
-    while i < count {
+    for i in 0..count {
         let from = plan[DATA_FROM + i];
         let until = plan[NAME_FROM + (i + 1)];
         let to = rounded(position);
         plan[DATA_TO + i] = to;
         position = to + (until - from + 7) / 8 * 8;
-        i += 1;
     }
     position
 }
 
 // The new names one behind the other from first on, each with its zero.
-pub fn place_names(plan: &mut [u64], fresh: usize, first: u64)
-    requires long { length plan.old ≡ plan_words }
+pub fn place_names(plan: &mut [u64; PLAN_WORDS], fresh: usize, first: u64)
     requires laid { NamesLaid plan.old fresh }
     requires first { first < 4611686018427387904 }
     ensures { NamesPlaced plan.old fresh first plan.new }
 {
     let mut next = first;
-    let mut j = 0;
-    while j < fresh {
+    for j in 0..fresh {
         let row = plan[NEW_ROW + j] as usize;
         let from = plan[NAME_FROM + row];
         let until = plan[DATA_FROM + row];
         plan[NAME_TO + j] = next;
         next = next + (until - from) + 1;
-        j += 1;
     }
 }
 
-// The old count, at least 1, doubled as often as needed and at least once.
+// The old count, at least 1, doubled as often as needed and at least once. No `for`: no number counts the steps.
 fn grown_count(need: u64, old: u64) -> u64
     requires need { need < 4611686018427387904 }
     requires old { old < 2305843009213693952 }
     ensures answer { result ≡ grown need old }
     ensures bound { result ≤ max (2 * max 1 old) (2 * need) }
 {
-    let mut count = 2 * greater(1, old);
+    let mut count = 2 * 1u64.max(old);
     while count < need {
         count = 2 * count;
     }
     count
 }
 
+// A block's new count, if it moves. 0 stands for none here and below, and `moves` is a bool, as in the definitions of these names.
 fn new_count(moves: bool, need: u64, old: u64) -> u64
     requires need { need < 4611686018427387904 }
     requires old { old < 2305843009213693952 }
@@ -107,6 +96,7 @@ fn behind_units(count: u64, at: u64, unit: u64, position: u64) -> u64
 }
 
 // Where a block that does not suffice starts, its new count (0 if it stays), and the position behind it.
+// 0 and not an Option: it is a word of the plan, as `sites_of` and the plan's numbers say it.
 #[derive(Clone, Copy)]
 pub struct Sites {
     pub names_at: u64,

@@ -19,9 +19,8 @@ use Rattle.gsd_format.proofs.Verdict.{Opens, verdict-zero}
 use Rattle.gsd_stores.specs.View.{View, view_of, end_of_use, index_end, namelist_end}
 use Rattle.gsd_stores.proofs.Plan.{end-of-use}
 use Rattle.gsd_open.specs.declared.survey.Survey.{Survey}
-use Rattle.gsd_names.specs.NameLists.{names_in, Spans}
 use Rattle.gsd_open.specs.Surveys.{Surveyed}
-use Rattle.gsd_open.proofs.Surveys.{kept-names, spans, many-names as survey-many}
+use Rattle.gsd_open.proofs.Surveys.{many-names as survey-many}
 use Rattle.gsd_plan.specs.Planning.{Sees}
 
 -- The numbers of an image that opens
@@ -97,30 +96,25 @@ module _ (x : List ℕ) (s : Survey) (see : Sees x s) where
 
 -- What the survey of an image that opens tells
 
-module _ (x starts : List ℕ) (s : Survey) (told : Surveyed x starts s) (good : s.number ≡ 0) where
-  opens : verdict x ≡ 0
-  opens = sym told.number ∙ good
-
+module _ (x starts : List ℕ) (s : Survey) (told : Surveyed x starts s) where
   pub sees : v10 s.layout.version ≡ false → Sees x s
   unfolding view_of
   sees r = record {
-    opens = opens;
+    opens = told.opens;
     recent = r;
-    layout = told.layout good;
-    entries = told.entries good;
-    frames = told.frames good;
-    list_end = (told.names good).list_end (sym (ap (λ l. v10 l.version) (told.layout good)) ∙ r)
+    layout = told.layout;
+    entries = told.entries;
+    frames = told.frames;
+    list_end = told.names.list_end (sym (ap (λ l. v10 l.version) told.layout) ∙ r)
         ∙ ap (λ ns. (layout_of x).namelist + length (flat ns)) (sym (names-of-block x));
-    chunks = told.chunks good;
+    chunks = told.chunks;
   }
 
-  pub listed-many : s.names.count ≡ length (view_of x).names
+  pub listed-many : (count : ℕ) → count ≡ s.names.count → count ≡ length (view_of x).names
   unfolding view_of
-  listed-many = survey-many x starts s told good
+  listed-many count e = e ∙ survey-many x starts s told
 
-  pub listed-are : v10 s.layout.version ≡ false → names_in false x starts s.names.count ≡ (view_of x).names
-  unfolding view_of
-  listed-are r = ap (λ v. names_in v x starts s.names.count) (sym r) ∙ kept-names x starts s told good
-
-  pub listed-spans : v10 s.layout.version ≡ false → Spans false starts s.names.count (length x)
-  listed-spans r = rw r at (spans x starts s told good)
+-- the names listed in it
+pub listed-are : (x : List ℕ) (ns : List (List ℕ)) → ns ≡ names_of x → ns ≡ (view_of x).names
+unfolding view_of
+listed-are x ns e = e

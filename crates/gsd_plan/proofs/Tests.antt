@@ -8,11 +8,13 @@ use lib.ListN.{length}
 use lib.Dec.{eqb}
 use borrow.Author.Tests.{lt-ltb, le-ltb, eq-eqb, ne_eqb}
 use Rattle.gsd_format.specs.declared.Layout.{Layout}
+use Rattle.gsd_format.specs.declared.refusal.Refusal.{Refusal}
+use Rattle.gsd_format.specs.Answers.{refusal_number}
 use Rattle.gsd_format.specs.Header.{v10}
 use Rattle.gsd_format.specs.Entries.{frames_of}
 use Rattle.gsd_format.specs.Opening.{verdict, most_names, greatest_frame}
 use Rattle.gsd_format.specs.Refusals.{◌⇒◌, ◌▹◌}
-use Rattle.gsd_format.proofs.Refusals.{met, passed, unmet, both, decides, goes_on, first_of, stays, left-holds, right-decides, neither-of, not-of}
+use Rattle.gsd_format.proofs.Refusals.{met, passed, unmet, both, decides, goes_on, first_of, refusal-some, first-refused, left-holds, right-decides, neither-of, not-of}
 use Rattle.gsd_stores.specs.View.{view_of}
 use Rattle.gsd_stores.specs.Sheet.{rows_of, sheet_test}
 use Rattle.gsd_stores.specs.Plan.{new_names}
@@ -71,32 +73,31 @@ module _ (x sheet : List ℕ) where
   unfolding append_test
   all-tests = refl
 
-  -- a number that is not 0 decides
-  stops : (n k rest : ℕ) (r : ℕ) (p : List ℕ) → append_test x sheet ≡ k ▹ rest → n ≡ k → (n ≡ 0 → ⊥) → r ≡ n → Plans x sheet (append_test x sheet) r p
-  stops n k rest r p t e f g =
-      let z : (k ≡ 0 → ⊥) = λ q. f (e ∙ q) in
-      let u : append_test x sheet ≡ k = t ∙ stays k rest z in
-      record { number = g ∙ e ∙ sym u; plan = λ q. absurd (z (sym u ∙ q)) }
+  -- a refusal decides, by the first test that refuses
+  stops : (r : Refusal) (k rest : ℕ) (p : List ℕ) → append_test x sheet ≡ k ▹ rest → refusal_number r ≡ k → Plans x sheet (append_test x sheet) (refusal_number r) p
+  stops r k rest p t e =
+      let u : refusal_number r ≡ append_test x sheet = first-refused r k rest e ∙ sym t in
+      record { number = u; plan = λ q. absurd (omega (arith, refusal-some r, u, q)) }
 
-  pub not_opened : (n : ℕ) (r : ℕ) (p : List ℕ) → n ≡ verdict x → (n ≡ 0 → ⊥) → r ≡ n → Plans x sheet (append_test x sheet) r p
-  not_opened n r p = stops n _ _ r p all-tests
+  pub not_opened : (r : Refusal) (p : List ℕ) → refusal_number r ≡ verdict x → Plans x sheet (append_test x sheet) (refusal_number r) p
+  not_opened r p = stops r _ _ p all-tests
 
-  module _ (starts : List ℕ) (s : Survey) (told : Surveyed x starts s) (good : s.number ≡ 0) where
+  module _ (starts : List ℕ) (s : Survey) (told : Surveyed x starts s) where
     image-next : append_test x sheet ≡ image_test s.layout s.frames ▹ sheet_test s.layout.version sheet ▹ plan_test x sheet
     unfolding view_of
     image-next =
-        all-tests ∙ first_of (verdict x) _ (sym told.number ∙ good)
-        ∙ sym (λ i. image_test (told.layout good i) (told.frames good i) ▹ sheet_test (told.layout good i).version sheet ▹ plan_test x sheet)
+        all-tests ∙ first_of (verdict x) _ told.opens
+        ∙ sym (λ i. image_test (told.layout i) (told.frames i) ▹ sheet_test (told.layout i).version sheet ▹ plan_test x sheet)
 
-    pub bad-image : (n : ℕ) (r : ℕ) (p : List ℕ) → n ≡ image_test s.layout s.frames → (n ≡ 0 → ⊥) → r ≡ n → Plans x sheet (append_test x sheet) r p
-    bad-image n r p = stops n _ _ r p image-next
+    pub bad-image : (r : Refusal) (p : List ℕ) → refusal_number r ≡ image_test s.layout s.frames → Plans x sheet (append_test x sheet) (refusal_number r) p
+    bad-image r p = stops r _ _ p image-next
 
     module _ (ready : image_test s.layout s.frames ≡ 0) where
       sheet-next : append_test x sheet ≡ sheet_test s.layout.version sheet ▹ plan_test x sheet
       sheet-next = image-next ∙ first_of (image_test s.layout s.frames) _ ready
 
-      pub bad-sheet : (n : ℕ) (r : ℕ) (p : List ℕ) → n ≡ sheet_test s.layout.version sheet → (n ≡ 0 → ⊥) → r ≡ n → Plans x sheet (append_test x sheet) r p
-      bad-sheet n r p = stops n _ _ r p sheet-next
+      pub bad-sheet : (r : Refusal) (p : List ℕ) → refusal_number r ≡ sheet_test s.layout.version sheet → Plans x sheet (append_test x sheet) (refusal_number r) p
+      bad-sheet r p = stops r _ _ p sheet-next
 
       pub good-sheet : sheet_test s.layout.version sheet ≡ 0 → append_test x sheet ≡ plan_test x sheet
       good-sheet e = sheet-next ∙ first_of (sheet_test s.layout.version sheet) (plan_test x sheet) e

@@ -1,4 +1,5 @@
 -- What comes back: a file that is read makes a sheet of its one row, what follows its data is ignored, and what was written is read.
+use Rattle.std.specs.Prelude.{Result, Ok, Err}
 use Prim.Native.Nat.{ℕ, ◌+◌, ◌*◌, ◌^◌, ◌<◌}
 use mathlib.Core.Path.{◌≡◌, refl, sym, ◌∙◌, ap}
 use mathlib.Core.Bool.{true, not}
@@ -10,7 +11,6 @@ use lib.Seq.{take_all}
 use lib.Dec.{eqb}
 use borrow.Author.Tests.{le-leb, eq-eqb}
 use Rattle.gsd_format.specs.declared.Entry.{Entry}
-use Rattle.gsd_format.specs.declared.Listed.{Listed}
 use Rattle.gsd_format.specs.Bytes.{le, le_bytes, part, same}
 use Rattle.gsd_format.specs.Refusals.{◌⇒◌, ◌▹◌, accepted}
 use Rattle.gsd_format.specs.Types.{size_of, chunk_size}
@@ -166,8 +166,8 @@ pub written-returns : (img : List ℕ) → Octets img → (frame : ℕ) (name fi
     Returns img frame name (written_file img frame name file)
 written-returns img octets frame name file h = go (lookup img frame name) refl
   where
-    go : (r : Listed) → lookup img frame name ≡ r → Returns img frame name (written_file img frame name file)
-    go (Listed.Found e) q =
+    go : (r : Result Entry ℕ) → lookup img frame name ≡ r → Returns img frame name (written_file img frame name file)
+    go (Ok e) q =
         let held = found-held img frame name e q in
         let fits = found-fits img frame name e q octets in
         let short : chunk_size e < 2 ^ 64 = omega (arith, held.within, held.short) in
@@ -180,4 +180,4 @@ written-returns img octets frame name file h = go (lookup img frame name) refl
           number = file-number e (chunk_of img e) fits held.sized short long;
           back = file-row e (chunk_of img e) fits held.sized short long;
         })
-    go (Listed.Refused n) q = absurd (lookup-never-0 img frame name (q ∙ ap Listed.Refused ((of-refused img frame name n file q).0 ∙ h)))
+    go (Err n) q = absurd (lookup-never-0 img frame name (q ∙ ap Err ((of-refused img frame name n file q).0 ∙ h)))

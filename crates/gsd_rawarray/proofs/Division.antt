@@ -1,7 +1,7 @@
 -- Laws of a product of three numbers that is tested by division.
 use Prim.Native.Nat.{ℕ, zero, suc, ◌*◌, ◌/◌, ◌%◌, ◌<◌}
 use mathlib.Core.Path.{◌≡◌, refl, sym, ◌∙◌, ap}
-use mathlib.Core.Bool.{false}
+use mathlib.Core.Bool.{false, ◌&&◌}
 use native.Mathlib.Nat.{mul-zero, zero-mul, mul-div_cancel, mul_comm, mod-add-div}
 use native.Mathlib.Decide.{ℕ_discrete}
 use native.Mathlib.Omega.{arith}
@@ -51,3 +51,12 @@ module _ (size n m width : ℕ) (w : width ≡ 0 → ⊥) where
         go : Dec (size / width / m ≡ n) → eqb (size / width / m) n ≡ eqb size (n * m * width)
         go (yes e) = eq-eqb _ _ e ∙ sym (eq-eqb _ _ (product e))
         go (no e) = ne_eqb _ _ e ∙ sym (ne_eqb _ _ (λ p. e (rows p)))
+
+    -- the three tests in a row
+    pub divided : (eqb (size % width) 0 && eqb (size / width % m) 0 && eqb (size / width / m) n) ≡ eqb size (n * m * width)
+    divided = go (ℕ_discrete (size % width) 0) (ℕ_discrete (size / width % m) 0)
+      where
+        go : Dec (size % width ≡ 0) → Dec (size / width % m ≡ 0) → (eqb (size % width) 0 && eqb (size / width % m) 0 && eqb (size / width / m) n) ≡ eqb size (n * m * width)
+        go (yes h) (yes g) = rw (eq-eqb _ _ h, eq-eqb _ _ g) (even h g)
+        go (yes h) (no g) = rw (eq-eqb _ _ h, ne_eqb _ _ g) (sym (ragged-rows g))
+        go (no h) g = rw (ne_eqb _ _ h) (sym (ragged h))

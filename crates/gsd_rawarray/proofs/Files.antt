@@ -1,4 +1,5 @@
 -- Laws of a file that is written: its head as its stores come, its length, its number, and that head and chunk are all of it.
+use Rattle.std.specs.Prelude.{Ok, Err}
 use Prim.Native.Nat.{ℕ, ◌+◌, ◌≤◌}
 use mathlib.Core.Path.{◌≡◌, refl, sym, ◌∙◌, ap}
 use mathlib.Core.Bool.{not}
@@ -8,12 +9,10 @@ use lib.ListN.{length, length-append}
 use lib.Dec.{eqb}
 use borrow.Author.Tests.{ne_eqb}
 use Rattle.gsd_format.specs.declared.Entry.{Entry}
-use Rattle.gsd_format.specs.declared.Listed.{Listed}
 use Rattle.gsd_format.specs.Bytes.{le_bytes, part, stored}
 use Rattle.gsd_format.specs.Refusals.{◌⇒◌, accepted}
 use Rattle.gsd_format.specs.Types.{size_of, chunk_size}
 use Rattle.gsd_format.specs.Lookup.{lookup, chunk_of}
-use Rattle.gsd_format.specs.Answers.{listed_number}
 use Rattle.gsd_format.specs.Calls.{lookup_test}
 use Rattle.gsd_format.proofs.Bytes.{part_length, store-more, stored-whole}
 use Rattle.gsd_format.proofs.Refusals.{met, differ-no, first_of, stays, not-accepted}
@@ -81,14 +80,14 @@ module _ (e : Entry) (room size : ℕ) (exact : size ≡ chunk_size e) where
   gives_none h = sym (differ-no room (raw_length e) 77 (h ∙ ap (λ n. 64 + n) exact))
 
 module _ (img : List ℕ) (frame : ℕ) (name : List ℕ) where
-  pub found-test : (e : Entry) → lookup img frame name ≡ Listed.Found e → (room : ℕ) →
+  pub found-test : (e : Entry) → lookup img frame name ≡ Ok e → (room : ℕ) →
       (not (eqb room (raw_length e)) ⇒ 77) ≡ write_test img frame name room
   unfolding write_test
   found-test e h room =
       let found = lookup-found img frame name e h in
       sym (first_of (lookup_test img frame name) _ found.0 ∙ ap (λ x. not (eqb room (raw_length x)) ⇒ 77) found.1)
 
-  pub of-found : (e : Entry) (file after : List ℕ) (number : ℕ) → lookup img frame name ≡ Listed.Found e →
+  pub of-found : (e : Entry) (file after : List ℕ) (number : ℕ) → lookup img frame name ≡ Ok e →
       number ≡ (not (eqb (length file) (raw_length e)) ⇒ 77) → after ≡ accepted (not (eqb (length file) (raw_length e)) ⇒ 77) (raw_file img e) file →
       (number ≡ write_test img frame name (length file)) × (after ≡ written_file img frame name file)
   of-found e file after number h p q = (
@@ -96,11 +95,11 @@ module _ (img : List ℕ) (frame : ℕ) (name : List ℕ) where
     q ∙ (λ i. accepted (found-test e h (length file) i) (raw_file img (sym (lookup-found img frame name e h).1 i)) file),
   )
 
-  pub of-refused : (n : ℕ) (file : List ℕ) → lookup img frame name ≡ Listed.Refused n →
+  pub of-refused : (n : ℕ) (file : List ℕ) → lookup img frame name ≡ Err n →
       (n ≡ write_test img frame name (length file)) × (file ≡ written_file img frame name file)
-  unfolding write_test listed_number
+  unfolding write_test
   of-refused n file h =
-      let number : n ≡ lookup_test img frame name = (lookup-says img frame name (Listed.Refused n) (sym h)).1.0 in
-      let some : n ≡ 0 → ⊥ = λ z. lookup-never-0 img frame name (h ∙ ap Listed.Refused z) in
+      let number : n ≡ lookup_test img frame name = (lookup-says img frame name (Err n) (sym h)).1.0 in
+      let some : n ≡ 0 → ⊥ = λ z. lookup-never-0 img frame name (h ∙ ap Err z) in
       let told : n ≡ write_test img frame name (length file) = number ∙ sym (stays (lookup_test img frame name) _ (λ z. some (number ∙ z))) in
       (told, not-accepted n _ _ file told some)

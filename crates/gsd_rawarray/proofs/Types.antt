@@ -1,12 +1,12 @@
 -- Laws of the types, ours and RawArray's: each that is read has the width that was said, and what is written comes back.
 use Prim.Native.Nat.{ℕ, zero, suc, ◌+◌, ◌≤◌, ◌<◌}
-use mathlib.Core.Path.{◌≡◌, refl, sym, ◌∙◌}
+use mathlib.Core.Path.{◌≡◌, refl, sym, ◌∙◌, ap}
 use mathlib.Core.Bool.{Bool, true, false, ◌&&◌, ◌||◌}
 use mathlib.Core.List.{List, [], ◌∷◌}
 use native.Mathlib.Nat.{zero-add}
 use native.Mathlib.Decide.{ℕ_discrete}
 use native.Mathlib.Omega.{arith}
-use lib.ListN.{get_or}
+use lib.ListN.{get_or, get_or-eq_default}
 use lib.Dec.{leb, eqb}
 use borrow.Author.Tests.{eqb-true, leb-true, ne_eqb}
 use Rattle.gsd_format.specs.Types.{size_of}
@@ -94,3 +94,90 @@ plain-some kind l = go (eqb kind 11)
 pub other-type : (type width : ℕ) → (type ≡ 2 → ⊥) → (type ≡ 1 → ⊥) → (type ≡ 3 → ⊥) → kind_of type width ≡ 0
 unfolding types_of
 other-type type width a b c = rw (ne_eqb type 2 a, ne_eqb type 1 b, ne_eqb type 3 c, types_of)
+
+-- What code finds
+
+-- is each of a table's types 0 or one of this type of RawArray's?
+unfoldable typed : ℕ → List ℕ → Bool
+typed type [] = true
+typed type (k ∷ ks) = (eqb k 0 || eqb (raw_type k) type) && typed type ks
+
+at_typed : (type : ℕ) (ks : List ℕ) (i : ℕ) → typed type ks ≡ true → (get_or ks i 0 ≡ 0 → ⊥) → raw_type (get_or ks i 0) ≡ type
+unfolding typed
+at_typed type [] i h n = absurd (n refl)
+at_typed type (k ∷ ks) zero h n =
+    eqb-true (raw_type k) type (sym (right-decides (eqb k 0) (eqb (raw_type k) type) (ne_eqb k 0 n)) ∙ (both_true (eqb k 0 || eqb (raw_type k) type) _ h).0)
+at_typed type (k ∷ ks) (suc i) h n = at_typed type ks i (both_true (eqb k 0 || eqb (raw_type k) type) _ h).1 n
+
+kind-typed : (type width : ℕ) → (kind_of type width ≡ 0 → ⊥) → raw_type (kind_of type width) ≡ type
+unfolding typed raw_type types_of
+kind-typed type width n = go (ℕ_discrete type 2) (ℕ_discrete type 1) (ℕ_discrete type 3)
+  where
+    unsigned : typed 2 (types_of 2) ≡ true
+    unsigned = refl
+
+    signed : typed 1 (types_of 1) ≡ true
+    signed = refl
+
+    floats : typed 3 (types_of 3) ≡ true
+    floats = refl
+
+    at : (t : ℕ) → type ≡ t → typed t (types_of t) ≡ true → raw_type (kind_of type width) ≡ type
+    at t e h =
+        let same : kind_of type width ≡ kind_of t width = ap (λ x. kind_of x width) e in
+        ap raw_type same ∙ at_typed t (types_of t) width h (λ z. n (same ∙ z)) ∙ sym e
+
+    go : Dec (type ≡ 2) → Dec (type ≡ 1) → Dec (type ≡ 3) → raw_type (kind_of type width) ≡ type
+    go (yes e) b c = at 2 e unsigned
+    go (no a) (yes e) c = at 1 e signed
+    go (no a) (no b) (yes e) = at 3 e floats
+    go (no a) (no b) (no c) = absurd (n (other-type type width a b c))
+
+module _ (raw width : ℕ) where
+  -- a type that is no character and has these two
+  pub found-kind : (k : ℕ) → k < 11 → raw_type k ≡ raw → size_of k ≡ width → k ≡ kind_of raw width
+  unfolding plain
+  found-kind k l r w =
+      let back : kind_of (raw_type k) (size_of k) ≡ k = (kind-back k (omega arith)).1 ∙ rw (ne_eqb k 11 (λ e. omega (arith, e)), plain) in
+      sym back ∙ (λ i. kind_of (r i) (w i))
+
+  -- and where none has them
+  pub no-kind : ((k : ℕ) → 0 < k → k < 11 → raw_type k ≡ raw → size_of k ≡ width → ⊥) → kind_of raw width ≡ 0
+  no-kind none = go (ℕ_discrete (kind_of raw width) 0)
+    where
+      go : Dec (kind_of raw width ≡ 0) → kind_of raw width ≡ 0
+      go (yes e) = e
+      go (no n) =
+          let s = kind-sized raw width n in
+          absurd (none (kind_of raw width) (omega arith) (omega arith) (kind-typed raw width n) s.1)
+
+-- What code writes
+
+four_in_a_row : (P : ℕ → Type 0) (from k : ℕ) → from ≤ k → k < from + 4 → P from → P (from + 1) → P (from + 2) → P (from + 3) → P k
+four_in_a_row P from k low high a b c d = go (ℕ_discrete k from) (ℕ_discrete k (from + 1)) (ℕ_discrete k (from + 2))
+  where
+    go : Dec (k ≡ from) → Dec (k ≡ from + 1) → Dec (k ≡ from + 2) → P k
+    go (yes e) q r = rw e a
+    go (no p) (yes e) r = rw e b
+    go (no p) (no q) (yes e) = rw e c
+    go (no p) (no q) (no r) = let e : k ≡ from + 3 = omega arith in rw e d
+
+pub unsigned-type : (kind : ℕ) → 1 ≤ kind → kind < 5 → raw_type kind ≡ 2
+unfolding raw_type
+unsigned-type kind low high = four_in_a_row (λ k. raw_type k ≡ 2) 1 kind low high refl refl refl refl
+
+pub signed-type : (kind : ℕ) → 5 ≤ kind → kind < 9 → raw_type kind ≡ 1
+unfolding raw_type
+signed-type kind low high = four_in_a_row (λ k. raw_type k ≡ 1) 5 kind low high refl refl refl refl
+
+pub float-type : (kind : ℕ) → 9 ≤ kind → kind < 11 → raw_type kind ≡ 3
+unfolding raw_type
+float-type kind low high = go (ℕ_discrete kind 9)
+  where
+    go : Dec (kind ≡ 9) → raw_type kind ≡ 3
+    go (yes e) = ap raw_type e
+    go (no n) = let e : kind ≡ 10 = omega arith in ap raw_type e
+
+pub no-type : (kind : ℕ) → 12 ≤ kind → raw_type kind ≡ 0
+unfolding raw_type
+no-type kind l = get_or-eq_default (0 ∷ 2 ∷ 2 ∷ 2 ∷ 2 ∷ 1 ∷ 1 ∷ 1 ∷ 1 ∷ 3 ∷ 3 ∷ 2 ∷ []) 0 {n = kind} (omega arith)

@@ -1,8 +1,7 @@
 -- What comes back: any file that is read makes a sheet of one row that images of every version take, what follows its data is ignored,
 -- and what was written is read with its N, M, type and bytes.
-use Rattle.std.specs.Prelude.{ℕ, ◌+◌, ◌≡◌, List, [], ◌∷◌, ◌++◌, true, false, not, length, eqb}
+use Rattle.std.specs.Prelude.{ℕ, ◌+◌, ◌≡◌, List, [], ◌∷◌, ◌++◌, true, false, not, length, eqb, Ok}
 use Rattle.gsd_format.specs.declared.Entry.{Entry}
-use Rattle.gsd_format.specs.declared.Listed.{Listed}
 use Rattle.gsd_format.specs.Refusals.{◌⇒◌, ◌▹◌}
 use Rattle.gsd_format.specs.Types.{chunk_size}
 use Rattle.gsd_format.specs.Lookup.{lookup, chunk_of}
@@ -26,7 +25,7 @@ plain kind = elim (eqb kind 11) [ true ↦ 1 | false ↦ kind ]
 -- this file is the chunk of a frame and a name
 pub record Returns (img : List ℕ) (frame : ℕ) (name file : List ℕ) : Type 0 where
   pub entry : Entry
-  pub found : lookup img frame name ≡ Listed.Found entry
+  pub found : lookup img frame name ≡ Ok entry
   -- it is refused for nothing but the name and the slice that it is read with
   pub number : (label : List ℕ) (room : ℕ) →
       read_test file label room ≡ (bad_name label ⇒ 78) ▹ (not (eqb room (20 + length label + chunk_size entry)) ⇒ 79)

@@ -2,5 +2,6 @@
 pub mod File
 pub mod Said
 pub mod Requests
+pub mod Heads
 pub mod Back
 pub mod Worked

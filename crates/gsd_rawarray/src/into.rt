@@ -2,28 +2,20 @@
 ghost use Rattle.std.specs.Prelude.{◌≡◌, not, ◌++◌, ◌≤◌, length, eqb};
 ghost use Rattle.gsd_format.specs.Bytes.{le_bytes, stored};
 ghost use Rattle.gsd_format.specs.Refusals.{◌⇒◌, accepted};
+ghost use Rattle.gsd_format.specs.Answers.{refused};
 ghost use Rattle.gsd_format.specs.Types.{size_of, chunk_size};
-ghost use Rattle.gsd_elements.specs.Held.{Held};
 ghost use Rattle.gsd_rawarray.specs.File.{raw_magic, raw_type, raw_head, raw_file, raw_length};
 
+use crate::kinds::raw_type;
 use crate::words::RAW;
 use gsd_bytes::{copy_part, put_text, put_word, size_of};
-use gsd_format::Entry;
+use gsd_elements::Chunk;
+use gsd_format::{Entry, Refusal};
 use gsd_open::chunk_bytes;
 
 const HEAD_SIZE: usize = 64;
 
-// RawArray's types of ours: 2 for unsigned numbers and characters, 1 for signed ones, 3 for floats.
-const RAW_TYPES: [u64; 12] = [0, 2, 2, 2, 2, 1, 1, 1, 1, 3, 3, 2];
-
-fn raw_type(kind: u8) -> u64
-    requires { kind ≤ 11 }
-    ensures { result ≡ raw_type kind }
-{
-    RAW_TYPES[kind as usize]
-}
-
-// Magic, flags, type and width.
+// Magic, flags, type and width. A slice with 64 bytes here and below: what is said of it is `stored` at a place of the file.
 fn put_front(file: &mut [u8], kind: u8)
     requires inside { 64 ≤ length file.old }
     requires kind { kind ≤ 11 }
@@ -58,18 +50,18 @@ fn put_head(file: &mut [u8], e: Entry, size: u64)
 }
 
 // The file goes into a slice of its length.
-pub fn write_file(image: &[u8], e: Entry, file: &mut [u8]) -> u64
-    requires { Held image.now e }
-    ensures number { result ≡ (not (eqb (length file.old) (raw_length e)) ⇒ 77) }
+pub fn write_file(chunk: &Chunk<'_>, file: &mut [u8]) -> Result<(), Refusal>
+    ensures number { refused result ≡ (not (eqb (length file.old) (raw_length chunk.now.entry)) ⇒ 77) }
     ensures file { file.new
-        ≡ accepted (not (eqb (length file.old) (raw_length e)) ⇒ 77) (raw_file image.now e) file.old }
+        ≡ accepted (not (eqb (length file.old) (raw_length chunk.now.entry)) ⇒ 77) (raw_file chunk.now.image.now chunk.now.entry) file.old }
 {
+    let e = chunk.entry;
     let size = chunk_bytes(e.n, e.m, e.kind);
     let start = e.location as usize;
     if file.len() != HEAD_SIZE + size as usize {
-        return 77;
+        return Err(Refusal::RawArrayLength);
     }
     put_head(file, e, size);
-    copy_part(file, HEAD_SIZE, image, start, size as usize);
-    0
+    copy_part(file, HEAD_SIZE, chunk.image, start, size as usize);
+    Ok(())
 }

@@ -5,19 +5,9 @@ ghost use Rattle.std.specs.Prelude.{◌≡◌, ◌*◌, eqb};
 pub fn is_product(size: u64, n: u64, m: u64, width: u64) -> bool
     ensures { result ≡ eqb size (n * m * width) }
 {
-    if width == 0 {
-        return size == 0;
-    }
-    if m == 0 {
+    if width == 0 || m == 0 {
         return size == 0;
     }
     let count = size / width;
-    if size % width != 0 {
-        return false;
-    }
-    let rows = count / m;
-    if count % m != 0 {
-        return false;
-    }
-    rows == n
+    (size % width == 0) & (count % m == 0) & (count / m == n)
 }

@@ -1,9 +1,14 @@
 // What a file is refused for, 70 to 76, and what a request to read one is refused for, 78 and 79 behind them.
-ghost use Rattle.std.specs.Prelude.{◌≡◌};
+ghost use Rattle.std.specs.Prelude.{◌≡◌, IfOk};
+ghost use Rattle.gsd_format.specs.Answers.{refused};
 ghost use Rattle.gsd_rawarray.specs.Requests.{raw_test, bad_name, read_test};
+ghost use Rattle.gsd_rawarray.specs.Heads.{Said};
 
-use crate::words::{RAW, columns_in, data_length, has_data, has_dimensions, kind_in};
+use crate::kinds::kind_of;
+use crate::product::is_product;
+use crate::words::{RAW, dimensions_in};
 use gsd_bytes::{TWO_TO_32, has_zero, same_part, u64_at};
+use gsd_format::Refusal;
 
 const SHORTEST_FILE: usize = 48;
 
@@ -12,66 +17,76 @@ const LONGEST_NAME: usize = 255;
 // Count and row of a sheet's table.
 const TABLE_SIZE: usize = 20;
 
-// Why a file cannot be read, or 0.
-fn file_number(file: &[u8]) -> u64
-    ensures { result ≡ raw_test file.now }
+// What a file that can be read says: our type of its elements, N, M, where its data begin and how many bytes they are.
+#[derive(Clone, Copy, Debug, PartialEq, Eq)]
+pub struct Head {
+    pub kind: u8,
+    pub rows: u64,
+    pub columns: u64,
+    pub start: usize,
+    pub size: usize,
+}
+
+// Its head, or why a file cannot be read.
+fn head_of(file: &[u8]) -> Result<Head, Refusal>
+    ensures number { refused result ≡ raw_test file.now }
+    ensures head { IfOk result (Said file.now) }
 {
     if file.len() < SHORTEST_FILE {
-        return 70;
+        return Err(Refusal::RawArrayShort);
     }
     let begins = same_part(file, 0, &RAW, 0, 8);
     let plain = u64_at(file, 8) == 0;
+    let width = u64_at(file, 24);
+    let size = u64_at(file, 32);
     if !begins {
-        return 71;
+        return Err(Refusal::RawArrayMagic);
     }
     if !plain {
-        return 72;
+        return Err(Refusal::RawArrayFlags);
     }
-    if kind_in(file) == 0 {
-        return 73;
+    let Some(kind) = kind_of(u64_at(file, 16), width) else {
+        return Err(Refusal::RawArrayType);
+    };
+    let Some(d) = dimensions_in(file) else {
+        return Err(Refusal::RawArrayDimensions);
+    };
+    let behind = (file.len() - d.start) as u64;
+    let filled = is_product(size, d.rows, d.columns, width) & (size <= behind);
+    if !filled {
+        return Err(Refusal::RawArrayData);
     }
-    if !has_dimensions(file) {
-        return 74;
+    if TWO_TO_32 <= d.columns {
+        return Err(Refusal::RawArrayColumns);
     }
-    if !has_data(file) {
-        return 75;
-    }
-    if TWO_TO_32 <= columns_in(file) {
-        return 76;
-    }
-    0
+    Ok(Head {
+        kind,
+        rows: d.rows,
+        columns: d.columns,
+        start: d.start,
+        size: size as usize,
+    })
 }
 
 // A name that no sheet may have.
 fn is_bad_name(name: &[u8]) -> bool
     ensures { result ≡ bad_name name.now }
 {
-    if name.len() == 0 {
-        return true;
-    }
-    if LONGEST_NAME < name.len() {
-        return true;
-    }
-    has_zero(name, 0, name.len())
+    name.is_empty() || LONGEST_NAME < name.len() || has_zero(name, 0, name.len())
 }
 
-// Why a file cannot be read under a name into so many bytes, or 0.
-pub fn read_number(file: &[u8], name: &[u8], room: usize) -> u64
-    ensures { result ≡ read_test file.now name.now room }
+// The head of a file that can be read under a name into so many bytes, or why it cannot.
+pub fn check_reading(file: &[u8], name: &[u8], room: usize) -> Result<Head, Refusal>
+    ensures number { refused result ≡ read_test file.now name.now room }
+    ensures head { IfOk result (Said file.now) }
 {
-    let number = file_number(file);
-    if number != 0 {
-        return number;
-    }
+    let head = head_of(file)?;
     if is_bad_name(name) {
-        return 78;
+        return Err(Refusal::RawArrayName);
     }
     let front = TABLE_SIZE + name.len();
-    if room < front {
-        return 79;
+    if room < front || room - front != head.size {
+        return Err(Refusal::RawArraySheet);
     }
-    if (room - front) as u64 != data_length(file) {
-        return 79;
-    }
-    0
+    Ok(head)
 }

@@ -1,4 +1,5 @@
 -- Laws of what is found: where names and chunks lie, and the element of an entry that is found.
+use Rattle.std.specs.Prelude.{Result, Ok, Err}
 use Prim.Native.Nat.{ℕ, zero, suc, ◌*◌, ◌<◌}
 use mathlib.Core.Path.{◌≡◌, refl, sym, ◌∙◌, ap}
 use mathlib.Core.List.{List}
@@ -6,9 +7,6 @@ use native.Mathlib.Decide.{dec_lt}
 use native.Mathlib.Omega.{arith}
 use lib.ListN.{length}
 use Rattle.gsd_format.specs.declared.Entry.{Entry}
-use Rattle.gsd_format.specs.declared.Listed.{Listed}
-use Rattle.gsd_format.specs.declared.Place.{Place}
-use Rattle.gsd_format.specs.declared.Element.{Element}
 use Rattle.gsd_format.specs.Header.{layout_of}
 use Rattle.gsd_format.specs.Types.{chunk_size}
 use Rattle.gsd_format.specs.Names.{name_parts, names_of, index_of}
@@ -46,7 +44,7 @@ name-inside img n = go (verdict img) refl (dec_lt n (length (name_parts img)))
     go (suc k) e l = rw (refused-name img k e n) tt
 
 -- an entry that is found is sound, and its chunk is in the image
-module _ (img : List ℕ) (frame : ℕ) (name : List ℕ) (e : Entry) (found : lookup img frame name ≡ Listed.Found e) where
+module _ (img : List ℕ) (frame : ℕ) (name : List ℕ) (e : Entry) (found : lookup img frame name ≡ Ok e) where
   opens : verdict img ≡ 0
   opens = found-opens img frame name e found
 
@@ -68,13 +66,13 @@ module _ (img : List ℕ) (frame : ℕ) (name : List ℕ) (e : Entry) (found : l
   }
 
   -- its place, by its size as code keeps it
-  pub place_found : (size : ℕ) → Capped (chunk_size e) size → chunk_place img frame name ≡ Place.At (record { start = e.location; size = size })
+  pub place_found : (size : ℕ) → Capped (chunk_size e) size → chunk_place img frame name ≡ Ok (record { start = e.location; size = size })
   unfolding chunk_place placed
   place_found size c =
-      ap placed found ∙ (λ i. Place.At (record { start = e.location; size = sym (c.exact (omega (arith, found-held))) i }))
+      ap placed found ∙ (λ i. Ok (record { start = e.location; size = sym (c.exact (omega (arith, found-held))) i }))
 
-pub place-refused : (img : List ℕ) (frame : ℕ) (name : List ℕ) (n : ℕ) → lookup img frame name ≡ Listed.Refused n →
-    chunk_place img frame name ≡ Place.Refused n
+pub place-refused : (img : List ℕ) (frame : ℕ) (name : List ℕ) (n : ℕ) → lookup img frame name ≡ Err n →
+    chunk_place img frame name ≡ Err n
 unfolding chunk_place placed
 place-refused img frame name n h = ap placed h
 
@@ -82,18 +80,18 @@ pub chunk_inside : (img : List ℕ) (frame : ℕ) (name : List ℕ) → Inside i
 unfolding Inside chunk_place placed
 chunk_inside img frame name = go (lookup img frame name) refl
   where
-    go : (r : Listed) → lookup img frame name ≡ r → Inside img (placed r)
-    go (Listed.Found e) h = (found-held img frame name e h).within
-    go (Listed.Refused n) h = tt
+    go : (r : Result Entry ℕ) → lookup img frame name ≡ r → Inside img (placed r)
+    go (Ok e) h = (found-held img frame name e h).within
+    go (Err n) h = tt
 
 -- Elements
 
-pub element-found : (img : List ℕ) (frame : ℕ) (name : List ℕ) (k : ℕ) (e : Entry) → lookup img frame name ≡ Listed.Found e →
+pub element-found : (img : List ℕ) (frame : ℕ) (name : List ℕ) (k : ℕ) (e : Entry) → lookup img frame name ≡ Ok e →
     element img frame name k ≡ element_in img e k
 unfolding element
 element-found img frame name k e h = rw (h, element)
 
-pub element-refused : (img : List ℕ) (frame : ℕ) (name : List ℕ) (k n : ℕ) → lookup img frame name ≡ Listed.Refused n →
-    element img frame name k ≡ Element.Refused n
+pub element-refused : (img : List ℕ) (frame : ℕ) (name : List ℕ) (k n : ℕ) → lookup img frame name ≡ Err n →
+    element img frame name k ≡ Err n
 unfolding element
 element-refused img frame name k n h = rw (h, element)

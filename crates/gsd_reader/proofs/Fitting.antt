@@ -1,4 +1,5 @@
 -- When a reader fits an image and when an entry found by it does, test by test as the code makes them.
+use Rattle.std.specs.Prelude.{Result, Ok, Err}
 use Prim.Native.Nat.{ℕ, ◌+◌, ◌*◌, ◌-◌, ◌≤◌, ◌<◌}
 use mathlib.Core.Path.{◌≡◌, refl, sym, ◌∙◌, ap}
 use mathlib.Core.Bool.{Bool, true, false, ◌&&◌}
@@ -10,7 +11,6 @@ use lib.Dec.{leb}
 use borrow.Author.Tests.{le-leb, lt-leb, leb-true}
 use Rattle.gsd_format.specs.declared.Entry.{Entry}
 use Rattle.gsd_format.specs.declared.Reader.{Reader}
-use Rattle.gsd_format.specs.declared.Listed.{Listed}
 use Rattle.gsd_format.specs.Types.{known, chunk_size}
 use Rattle.gsd_format.specs.Header.{supported, greatest_length}
 use Rattle.gsd_format.specs.Opening.{most_names}
@@ -95,17 +95,17 @@ module _ (r : Reader) (img : List ℕ) where
       record { short = leb-true _ _ a.0; known = b.0; names = leb-true _ _ c.0; slots = leb-true _ _ d.0; list = leb-true _ _ d.1 }
 
   -- what found an entry fits
-  pub found-fits : (frame : ℕ) (name : List ℕ) (e : Entry) → lookup_by r img frame name ≡ Listed.Found e → fits r img ≡ true
+  pub found-fits : (frame : ℕ) (name : List ℕ) (e : Entry) → lookup_by r img frame name ≡ Ok e → fits r img ≡ true
   found-fits frame name e h = go (fits r img) refl
     where
-      number : Listed → ℕ
-      number (Listed.Found e) = 0
-      number (Listed.Refused n) = n
+      number : Result Entry ℕ → ℕ
+      number (Ok e) = 0
+      number (Err n) = n
 
       go : (b : Bool) → fits r img ≡ b → fits r img ≡ true
       go true f = f
       go false f =
-          let q : number (Listed.Refused 33) ≡ number (Listed.Found e) = ap number (sym (look-33 r img f frame name) ∙ h) in
+          let q : number (Err 33) ≡ number (Ok e) = ap number (sym (look-33 r img f frame name) ∙ h) in
           absurd (omega (arith, q))
 
   module _ (e : Entry) where

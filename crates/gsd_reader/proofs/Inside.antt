@@ -1,4 +1,5 @@
 -- What a reader hands out lies in the image: names and chunks.
+use Rattle.std.specs.Prelude.{Result, Ok, Err}
 use Prim.Native.Nat.{ℕ, ◌<◌}
 use mathlib.Core.Path.{◌≡◌, refl, ◌∙◌}
 use mathlib.Core.Bool.{Bool, true, false}
@@ -7,7 +8,6 @@ use native.Mathlib.Decide.{dec_lt}
 use native.Mathlib.Omega.{arith}
 use lib.ListN.{length}
 use Rattle.gsd_format.specs.declared.Entry.{Entry}
-use Rattle.gsd_format.specs.declared.Listed.{Listed}
 use Rattle.gsd_format.specs.declared.Reader.{Reader}
 use Rattle.gsd_format.specs.Names.{list_parts}
 use Rattle.gsd_format.specs.Lookup.{nowhere}
@@ -39,11 +39,11 @@ module _ (r : Reader) (img : List ℕ) where
   unfolding Inside
   chunk_inside frame name = go (lookup_by r img frame name) refl
     where
-      found : (e : Entry) → lookup_by r img frame name ≡ Listed.Found e → (b : Bool) → holds r img e ≡ b → Inside img (chunk_place_by r img frame name)
+      found : (e : Entry) → lookup_by r img frame name ≡ Ok e → (b : Bool) → holds r img e ≡ b → Inside img (chunk_place_by r img frame name)
       found e h true b =
           rw (chunk-held r img (lookup_by r img frame name) e h b) (holding r img e b (fitting r img (found-fits r img frame name e h)).short).within
       found e h false b = rw (chunk-33 r img (lookup_by r img frame name) e h b) tt
 
-      go : (l : Listed) → lookup_by r img frame name ≡ l → Inside img (chunk_place_by r img frame name)
-      go (Listed.Found e) h = found e h (holds r img e) refl
-      go (Listed.Refused n) h = rw (chunk-none r img (lookup_by r img frame name) n h) tt
+      go : (l : Result Entry ℕ) → lookup_by r img frame name ≡ l → Inside img (chunk_place_by r img frame name)
+      go (Ok e) h = found e h (holds r img e) refl
+      go (Err n) h = rw (chunk-none r img (lookup_by r img frame name) n h) tt

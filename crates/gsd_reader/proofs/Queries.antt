@@ -1,4 +1,5 @@
 -- A reader's queries fit its image, and the halving of the second one ends at the place from which the newest entry is sought.
+use Rattle.std.specs.Prelude.{Ok, Err}
 use Prim.Native.Nat.{ℕ, suc, ◌+◌, ◌*◌, ◌≤◌, ◌<◌}
 use mathlib.Core.Path.{◌≡◌, refl, sym, ◌∙◌, ap}
 use mathlib.Core.Bool.{Bool, true, false}
@@ -6,13 +7,13 @@ use mathlib.Core.List.{List}
 use native.Mathlib.Omega.{arith}
 use lib.ListN.{length, get_or}
 use Rattle.gsd_format.specs.declared.Entry.{Entry}
-use Rattle.gsd_format.specs.declared.Listed.{Listed}
 use Rattle.gsd_format.specs.declared.Reader.{Reader}
 use Rattle.gsd_format.specs.Header.{v10}
 use Rattle.gsd_format.specs.Entries.{entry_at}
 use Rattle.gsd_format.specs.Lookup.{none}
-use Rattle.gsd_format.specs.Readers.{fits, place_behind, last_before}
+use Rattle.gsd_format.specs.Readers.{fits, find_by, place_behind, last_before, newest_by}
 use Rattle.gsd_format.proofs.Entries.{slots_length, slots-each}
+use Rattle.gsd_format.proofs.Readers.{find-33, find-fits, newest-33, newest-fits, counted-frames, counted-names}
 use Rattle.gsd_format.proofs.Search.{halved-ends}
 use Rattle.gsd_format.proofs.Newest.{last-here, last_on, behind-10, behind-recent}
 use Rattle.gsd_search.specs.declared.probing.Query.{Query}
@@ -24,6 +25,21 @@ pub query-fits : (r : Reader) (img : List ℕ) (frame id : ℕ) → fits r img �
 query-fits r img frame id h l =
     let f = fitting r img h in
     record { slots = f.slots; end = omega (arith, f.slots, f.short); short = omega (arith, f.names) }
+
+-- The tests before the search: each one's number is what find and newest answer
+
+module _ (r : Reader) (img : List ℕ) (frame id : ℕ) where
+  abbrev Both : ℕ → Type 0
+  Both n = (find_by r img frame id ≡ Err n) × (newest_by r img frame id ≡ Err n)
+
+  pub both-33 : fits r img ≡ false → Both 33
+  both-33 h = (find-33 r img h frame id, newest-33 r img h frame id)
+
+  pub both-40 : fits r img ≡ true → r.frames ≤ frame → Both 40
+  both-40 h f = (find-fits r img h frame id ∙ counted-frames _ _ _ _ _ f, newest-fits r img h frame id ∙ counted-frames _ _ _ _ _ f)
+
+  pub both-41 : fits r img ≡ true → frame < r.frames → r.names ≤ id → Both 41
+  both-41 h f d = (find-fits r img h frame id ∙ counted-names _ _ _ _ _ f d, newest-fits r img h frame id ∙ counted-names _ _ _ _ _ f d)
 
 -- By the version
 
@@ -79,10 +95,10 @@ module _ (q : Query) where
     at : e ≡ get_or (slots_for img q) p none
     at = is ∙ sym (slots-each q.count img q.index p l)
 
-    pub slot-here : (i : ℕ) → i ≡ p + 1 → e.id ≡ q.id → last_before q.id (slots_for img q) i ≡ Listed.Found e
+    pub slot-here : (i : ℕ) → i ≡ p + 1 → e.id ≡ q.id → last_before q.id (slots_for img q) i ≡ Ok e
     slot-here i s d =
         ap (last_before q.id (slots_for img q)) (let k : i ≡ suc p = omega arith in k)
-        ∙ last-here q.id (slots_for img q) p (sym (ap (λ f. f.id) at) ∙ d) ∙ ap Listed.Found (sym at)
+        ∙ last-here q.id (slots_for img q) p (sym (ap (λ f. f.id) at) ∙ d) ∙ ap Ok (sym at)
 
     pub slot-on : (i : ℕ) → i ≡ p + 1 → (e.id ≡ q.id → ⊥) → last_before q.id (slots_for img q) i ≡ last_before q.id (slots_for img q) p
     slot-on i s d =

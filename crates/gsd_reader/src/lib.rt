@@ -6,6 +6,7 @@ mod fit;
 mod found;
 mod names;
 mod newest;
+mod searching;
 
 pub use found::{
     chunk_by, chunk_place_by, element_by, entry_by, find_by, id_by, lookup_by, name_by,

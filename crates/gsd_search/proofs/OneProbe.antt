@@ -1,4 +1,4 @@
--- Calls of `probing::probe` by the contract that is made of that function: each is the next of the probes, reads its entry and is
+-- Calls of `probing::Search::probe` by the contract that is made of that function: each is the next of the probes, reads its entry and is
 -- counted, so that calls in a row are the list. A weaker `requires` or `ensures` there is refused here.
 use Prim.Native.Nat.{ℕ, ◌+◌}
 use mathlib.Core.Path.{◌≡◌, refl, sym, ◌∙◌, ap}
@@ -14,29 +14,29 @@ use Rattle.gsd_format.specs.declared.Entry.{Entry}
 use Rattle.gsd_format.specs.Lookup.{none}
 use Rattle.gsd_search.specs.declared.probing.Query.{Query}
 use Rattle.gsd_search.specs.Queries.{slots_for, probes_for, Next}
-use Rattle.gsd_search.specs.contracts.probing.probe.{signature}
-use Rattle.gsd_search.proofs.probing.probe.Kinds.{ps, r as answer}
-use Rattle.gsd_search.proofs.probing.probe.Reads.{Asked, Learnt}
+use Rattle.gsd_search.specs.contracts.probing.Search.probe.{signature}
+use Rattle.gsd_search.proofs.probing.Search.probe.Kinds.{ps, r as answer}
+use Rattle.gsd_search.proofs.probing.Search.probe.Reads.{Asked, Learnt}
 
 -- of slot i, after so many probes; it read e and left the count made'
 pub record OneProbe (img : List ℕ) (q : Query) (made i : ℕ) (e : Entry) (made' : ℕ) : Type 0 where
-  pub lifetimes : Lfts 2
+  pub lifetimes : Lfts 3
   pub args : ArgsD signature lifetimes
   pub result : ResD signature lifetimes
-  pub exit : AtExit (ended_of 2 ps answer) lifetimes
-  pub on_image : args.0.now ≡ img
-  pub of_query : args.1.0 ≡ q
-  pub of_slot : args.1.1.0 ≡ i
-  pub before : args.1.1.1.0.now ≡ made
+  pub exit : AtExit (ended_of 3 ps answer) lifetimes
+  pub on_image : args.0.now.image.now ≡ img
+  pub of_query : args.0.now.query ≡ q
+  pub of_slot : args.1.0 ≡ i
+  pub before : args.1.1.0.now ≡ made
   pub read : result ≡ e
-  pub left : exit.1.1.1.0.now ≡ made'
+  pub left : exit.1.1.0.now ≡ made'
   pub asked : Asked lifetimes args
   pub ensured : Learnt lifetimes args result exit
 
 module _ (img : List ℕ) (q : Query) where
   module _ {made i made' : ℕ} {e : Entry} (c : OneProbe img q made i e made') where
     pub one-next : Next (probes_for img q) made i
-    one-next = rw (c.on_image, c.of_query, c.before, c.of_slot) at c.asked.1
+    one-next = rw (c.on_image, c.of_query, c.before, c.of_slot) at c.asked
 
     pub one-read : e ≡ get_or (slots_for img q) i none
     one-read = sym c.read ∙ c.ensured.0 ∙ (λ k. get_or (slots_for (c.on_image k) (c.of_query k)) (c.of_slot k) none)

@@ -1,4 +1,5 @@
 -- The halving and the walk on their way: the next probe, what is left after it, the ends.
+use Rattle.std.specs.Prelude.{Result, Ok, Err}
 use Prim.Native.Nat.{ℕ, suc, ◌+◌, ◌-◌, ◌/◌, ◌^◌, ◌≤◌, ◌<◌}
 use mathlib.Core.Path.{◌≡◌, refl, sym, ◌∙◌, ap}
 use mathlib.Core.Bool.{Bool, true, false}
@@ -13,7 +14,6 @@ use lib.Dec.{ltb}
 use borrow.Author.Count.{below_more}
 use borrow.Author.Tests.{ltb-true, ltb-false}
 use Rattle.gsd_format.specs.declared.Entry.{Entry}
-use Rattle.gsd_format.specs.declared.Listed.{Listed}
 use Rattle.gsd_format.specs.Header.{v10}
 use Rattle.gsd_format.specs.Entries.{key_of, key}
 use Rattle.gsd_format.specs.Lookup.{none}
@@ -169,9 +169,9 @@ module _ (version frame id : ℕ) (es : List Entry) where
         (searched-walks version frame id es ∙ passed.0, omega (arith, parts, passed.1, h.counted))
 
     pub walking-end : whole.place + length (ahead version frame id es) ≤ i →
-        (Listed.Refused 42 ≡ searched version frame id es) × (made ≡ length (probed version frame id es))
+        (Err 42 ≡ searched version frame id es) × (made ≡ length (probed version frame id es))
     walking-end l =
-        let none : on ≡ stopped [] (Listed.Refused 42) =
+        let none : on ≡ stopped [] (Err 42) =
         ap (walk frame id (whole.place + k)) (drop_of_length-le (ahead version frame id es) {i = k} (omega (arith, h.low))) ∙ walk_end_lem frame id (whole.place + k) in
         (sym (onward.0 ∙ ap (λ w. w.answer) none), omega (arith, onward.1, ap (λ w. length w.probes) none))
 
@@ -201,7 +201,7 @@ module _ (version frame id : ℕ) (es : List Entry) where
         here : drop k (ahead version frame id es) ≡ e ∷ drop (suc k) (ahead version frame id es)
         here = drop-cons (ahead version frame id es) k none inside ∙ ap (λ a. a ∷ drop (suc k) (ahead version frame id es)) there
 
-        stops : (answer : Listed) →
+        stops : (answer : Result Entry ℕ) →
             walk frame id (whole.place + k) (e ∷ drop (suc k) (ahead version frame id es)) ≡ stopped ((whole.place + k) ∷ []) answer →
             (answer ≡ searched version frame id es) × (count ≡ length (probed version frame id es))
         stops answer w =
@@ -209,12 +209,12 @@ module _ (version frame id : ℕ) (es : List Entry) where
             (sym (onward.0 ∙ ap (λ w. w.answer) last), omega (arith, onward.1, ap (λ w. length w.probes) last))
 
         pub walking-other : (e.frame ≡ frame → ⊥) →
-            (Listed.Refused 42 ≡ searched version frame id es) × (count ≡ length (probed version frame id es))
-        walking-other f = stops (Listed.Refused 42) (walk-other frame id (whole.place + k) e _ f)
+            (Err 42 ≡ searched version frame id es) × (count ≡ length (probed version frame id es))
+        walking-other f = stops (Err 42) (walk-other frame id (whole.place + k) e _ f)
 
         pub walking-found : e.frame ≡ frame → e.id ≡ id →
-            (Listed.Found e ≡ searched version frame id es) × (count ≡ length (probed version frame id es))
-        walking-found f d = stops (Listed.Found e) (walk_here frame id (whole.place + k) e _ f d)
+            (Ok e ≡ searched version frame id es) × (count ≡ length (probed version frame id es))
+        walking-found f d = stops (Ok e) (walk_here frame id (whole.place + k) e _ f d)
 
         pub walking_on : e.frame ≡ frame → (e.id ≡ id → ⊥) → Walking (i + 1) count
         walking_on f d = record {

@@ -1,7 +1,6 @@
 -- The slots that a query searches, in any bytes, and the probes that it makes of them.
-use Rattle.std.specs.Prelude.{ℕ, ◌+◌, ◌*◌, ◌^◌, ◌≤◌, ◌<◌, min, ◌≡◌, true, false, List, length, get_or}
+use Rattle.std.specs.Prelude.{ℕ, ◌+◌, ◌*◌, ◌^◌, ◌≤◌, ◌<◌, min, ◌≡◌, true, false, List, length, get_or, Result}
 use Rattle.gsd_format.specs.declared.Entry.{Entry}
-use Rattle.gsd_format.specs.declared.Listed.{Listed}
 use Rattle.gsd_format.specs.Header.{v10}
 use Rattle.gsd_format.specs.Entries.{id_range, slots_at}
 use Rattle.gsd_format.specs.Search.{Halved, halved, probed, searched}
@@ -24,7 +23,7 @@ abbrev pub probes_for : List ℕ → Query → List ℕ
 probes_for img q = probed q.version q.frame q.id (slots_for img q)
 
 -- what it answers
-abbrev pub answer_for : List ℕ → Query → Listed
+abbrev pub answer_for : List ℕ → Query → Result Entry ℕ
 answer_for img q = searched q.version q.frame q.id (slots_for img q)
 
 -- the slots lie in the image, no place of them wraps, and the id has 16 bits

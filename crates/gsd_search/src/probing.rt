@@ -17,13 +17,22 @@ pub struct Query {
     pub id: u64,
 }
 
-// The entry in slot i. Each call is the next of the probes that are defined for the query.
-pub(crate) fn probe(image: &[u8], q: Query, i: u64, probes: &mut u64) -> Entry
-    requires fits { Fits image.now q }
-    requires next { Next (probes_for image.now q) probes.old i }
-    ensures value { result ≡ get_or (slots_for image.now q) i none }
-    ensures counted { probes.new ≡ probes.old + 1 }
-{
-    *probes += 1;
-    entry_at(image, (q.index + SLOT_SIZE * i) as usize)
+// The search for it, in an image that its slots lie in.
+#[derive(Clone, Copy)]
+pub struct Search<'a> {
+    pub image: &'a [u8],
+    pub query: Query,
+    ghost fits: { Fits image.now query },
+}
+
+impl Search<'_> {
+    // The entry in slot i. Each call is the next of the probes that are defined for the query.
+    pub(crate) fn probe(&self, i: u64, probes: &mut u64) -> Entry
+        requires { Next (probes_for self.now.image.now self.now.query) probes.old i }
+        ensures value { result ≡ get_or (slots_for self.now.image.now self.now.query) i none }
+        ensures counted { probes.new ≡ probes.old + 1 }
+    {
+        *probes += 1;
+        entry_at(self.image, (self.query.index + SLOT_SIZE * i) as usize)
+    }
 }

@@ -1,5 +1,5 @@
 -- Laws of the sheet's tests as the code makes them: row by row, and pair by pair.
-use Prim.Native.Nat.{ℕ, suc, ◌+◌, ◌*◌, ◌-◌, ◌/◌, ◌≤◌, ◌<◌}
+use Prim.Native.Nat.{ℕ, zero, suc, ◌+◌, ◌*◌, ◌-◌, ◌/◌, ◌≤◌, ◌<◌}
 use mathlib.Core.Path.{◌≡◌, refl, sym, ◌∙◌, ap}
 use mathlib.Core.Bool.{Bool, true, false, not, ◌||◌}
 use mathlib.Core.List.{List, []}
@@ -7,16 +7,19 @@ use native.Mathlib.Nat.{zero-add, mul_assoc, mul-le-mul, div-lt_iff_lt-mul, mul-
 use native.Mathlib.Numerals.{add-one}
 use native.Mathlib.Omega.{arith}
 use lib.ListN.{length, get_or, length-map, get_or-map}
+use native.Mathlib.Decide.{dec_lt}
 use lib.Dec.{ltb, eqb}
+use Rattle.std.specs.List.{list_any, range_with_len}
 use borrow.Author.Tests.{ltb-true, ltb-false, lt-ltb, le-ltb, eq-eqb, ne_eqb}
 use Rattle.gsd_format.specs.Bytes.{le, part, zero_in}
 use Rattle.gsd_format.specs.Types.{size_of, known}
 use Rattle.gsd_format.specs.Names.{index_of}
 use Rattle.gsd_format.specs.Opening.{twins}
-use Rattle.gsd_format.specs.Refusals.{◌⇒◌, ◌▹◌}
-use Rattle.gsd_format.proofs.Refusals.{both, first_of, stays, ▹-assoc, unmet, neither, not-less, differ-no, same_test}
+use Rattle.gsd_format.specs.Refusals.{◌⇒◌, ◌▹◌, one_of}
+use Rattle.gsd_format.proofs.Refusals.{first_of, stays, ▹-assoc, differ-no, same_test}
+use Rattle.gsd_format.proofs.Lists.{at_each, at-any, true-one, false-one}
 use Rattle.gsd_format.proofs.Ids.{index_at, index-least, index_is, places-distinct, distinct-twins, twin-twins}
-use Rattle.gsd_stores.specs.Sheet.{row_kind, name_size, body_size, bad_row, bad_table, bodies_end, row_count, table_end, rows_of, nan_row, most_rows, form_test, sheet_test}
+use Rattle.gsd_stores.specs.Sheet.{row_kind, name_size, body_size, bad_row, bad_table, bodies_end, row_count, table_end, rows_of, nan_row, form_test, sheet_test}
 use Rattle.gsd_stores.specs.Demand3.{no_row}
 use Rattle.gsd_stores.specs.Sheet.{row_at, name_at, body_at, Exact}
 use Rattle.gsd_format.specs.Elements.{any_nan}
@@ -45,18 +48,35 @@ module _ (version : ℕ) (s : List ℕ) (t : ℕ) where
   pub bad-spare : known version (row_kind s t) ≡ true → (name_size s t ≡ 0 → ⊥) → bad_row version s t ≡ not (eqb (le 2 s (t + 14)) 0)
   bad-spare e f = rw (e, ne_eqb (name_size s t) 0 f)
 
--- the table from row i on is bad when row i is, or the rest
-pub bad-next : (version : ℕ) (s : List ℕ) (n i : ℕ) → i < n
-    → bad_table version s (row_at i) (n - i) ≡ (bad_row version s (row_at i) || bad_table version s (row_at (i + 1)) (n - (i + 1)))
-unfolding bad_table
-bad-next version s n i l =
-    let e : n - i ≡ suc (n - (i + 1)) = omega arith in
-    let f : row_at i + 16 ≡ row_at (i + 1) = omega arith in
-    rw (e, bad_table, f)
+-- Does a test hold of one of n numbers from a on? It does where one answer follows from such a number, and the other from none.
+pub any-decides : (t : ℕ → Bool) (a n : ℕ) (r : Bool) → ((k : ℕ) → a ≤ k → k < a + n → t k ≡ true → r ≡ true)
+    → (((k : ℕ) → a ≤ k → k < a + n → t k ≡ false) → r ≡ false) → list_any t (range_with_len a n) ≡ r
+any-decides t a zero r one none = sym (none (λ k l m. absurd (omega arith)))
+any-decides t a (suc n) r one none = go (t a) refl (any-decides t (a + 1) n r)
+  where
+    later : t a ≡ false → ((k : ℕ) → a + 1 ≤ k → k < a + 1 + n → t k ≡ false) → (k : ℕ) → a ≤ k → k < a + suc n → t k ≡ false
+    later e f k l m = elim (dec_lt a k) [ yes h ↦ f k (omega arith) (omega arith) | no h ↦ (let q : k ≡ a = omega arith in ap t q) ∙ e ]
 
-pub bad-none : (version : ℕ) (s : List ℕ) (n : ℕ) → bad_table version s (row_at n) (n - n) ≡ false
+    go : (b : Bool) → t a ≡ b
+        → (((k : ℕ) → a + 1 ≤ k → k < a + 1 + n → t k ≡ true → r ≡ true) → (((k : ℕ) → a + 1 ≤ k → k < a + 1 + n → t k ≡ false) → r ≡ false)
+        → list_any t (range_with_len (a + 1) n) ≡ r)
+        → (t a || list_any t (range_with_len (a + 1) n)) ≡ r
+    go true e rest = rw e (sym (one a (omega arith) (omega arith) e))
+    go false e rest = rw e (rest (λ k l m q. one k (omega arith) (omega arith) q) (λ f. none (later e f)))
+
+-- the same of the rows of a list
+pub any-one : {A : Type 0} (p : A → Bool) (l : List A) (d : A) (n : ℕ) → length l ≡ n → list_any (λ i. p (get_or l i d)) (range_with_len 0 n) ≡ one_of p l
+any-one p l d n e =
+    any-decides (λ i. p (get_or l i d)) 0 n (one_of p l) (λ k z m h. true-one p l (at-any (λ x. p x ≡ true) l d k (omega arith) h))
+    (λ f. false-one p l (at_each (λ x. p x ≡ false) l d (λ k m. f k (omega arith) (omega arith))))
+
+-- the table's rows from the a-th on
+pub any-bad : (version : ℕ) (s : List ℕ) (a n : ℕ) → list_any (λ i. bad_row version s (row_at i)) (range_with_len a n) ≡ bad_table version s (row_at a) n
 unfolding bad_table
-bad-none version s n = let e : n - n ≡ 0 = omega arith in rw (e, bad_table)
+any-bad version s a zero = refl
+any-bad version s a (suc n) =
+    let f : row_at (a + 1) ≡ row_at a + 16 = omega arith in
+    ap (λ b. bad_row version s (row_at a) || b) (any-bad version s (a + 1) n ∙ ap (λ t. bad_table version s t n) f)
 
 -- 22 to 24 in their order
 module _ (version : ℕ) (s : List ℕ) where
@@ -214,20 +234,6 @@ twins-no ns f = distinct-twins ns (places-distinct ns (λ i j m l e.
     omega (arith, index-least (get_or ns j []) ns i (omega arith) e, ltb-false (index_of (get_or ns j []) ns) j (f j l))))
 
 -- The whole test
-
--- what the table's test tells where it refuses nothing
-pub record Tabled (s : List ℕ) : Type 0 where
-  pub long : 4 ≤ length s
-  pub few : row_count s ≤ most_rows
-  pub whole : table_end s ≤ length s
-
-pub tabled : (version : ℕ) (s : List ℕ) → table_test version s ≡ 0 → Tabled s
-unfolding table_test
-tabled version s h =
-    let from22 = both _ _ h in
-    let from23 = both _ _ from22.1 in
-    let count : (((ltb (length s) 4 || eqb (row_count s) 0) ≡ false) × (ltb most_rows (row_count s) ≡ false)) = neither _ _ (unmet _ _ from22.0) in
-    record { long = ltb-false _ _ (neither _ _ count.0).0; few = ltb-false _ _ count.1; whole = not-less _ _ _ from23.0 }
 
 -- the first part that refuses decides
 module _ (version : ℕ) (s : List ℕ) where

@@ -1,6 +1,6 @@
 -- Beginnings: what one counts by its plan, and that what it gives can be carried on, which is the append.
 use Prim.Native.Nat.{ℕ, ◌≤◌, ◌<◌, min}
-use mathlib.Core.Path.{◌≡◌, sym, ◌∙◌, ap}
+use mathlib.Core.Path.{◌≡◌, ◌∙◌, ap}
 use mathlib.Core.List.{List, ◌++◌}
 use native.Mathlib.Omega.{arith}
 use lib.ListN.{length, take}
@@ -17,14 +17,7 @@ use Rattle.gsd_plan.specs.Planning.{planned}
 use Rattle.gsd_states.specs.declared.Counts.{Counts}
 use Rattle.gsd_states.specs.States.{state_of, plan_in, left, Began, Counted}
 use Rattle.gsd_states.proofs.States.{plan-put, plan-of, left-of}
-use Rattle.gsd_states.proofs.Appends.{refused-append, Carried, carried, append-ready, header-inside, plan-whole, plan-copied, accepted-append}
-
--- a refused one
-pub refused-begins : (x sheet s : List ℕ) (k : ℕ) → k ≡ append_test x sheet → (k ≡ 0 → ⊥) → Counted x sheet (record { number = k; whole = 0; copied = 0 }) s
-unfolding append_answer
-refused-begins x sheet s k e f =
-    let none = (refused-append x sheet 0 k e f).0 in
-    record { number = e; whole = ap (λ a. a.whole) none; copied = ap (λ a. a.copied) none; state = λ z. absurd (f z) }
+use Rattle.gsd_states.proofs.Appends.{Carried, carried, append-ready, header-inside, plan-whole, plan-copied, accepted-append}
 
 -- a plan that matches, put in front of the words, and its marks are the state of an accepted one
 pub began-put : (x sheet p rest s : List ℕ) → Bytes x → Bytes sheet → Matches (view_of x) sheet (planned x sheet) p
@@ -54,24 +47,23 @@ module _ {x sheet s : List ℕ} (ok : append_test x sheet ≡ 0) (b : Began x sh
   began-count = omega (arith, count-extents sheet (plan_in s), began-ready.count)
 
   pub accepted-begins : (whole copies : ℕ) → whole ≡ whole_of (plan_in s) → copies ≡ copied_in (plan_in s)
-      → Counted x sheet (record { number = 0; whole = whole; copied = copies }) s
+      → Counted x sheet (record { whole = whole; copied = copies }) s
   accepted-begins whole copies w c = record {
-    number = sym ok;
     whole = w ∙ ap whole_of began-plan ∙ plan-whole carries;
     copied = c ∙ ap copied_in began-plan ∙ plan-copied carries;
-    state = λ _. b;
+    state = b;
   }
 
 -- and carried on it is the append
-module _ {x sheet s : List ℕ} {b : Counts} (h : Counted x sheet b s) (z : b.number ≡ 0) where
+module _ {x sheet s : List ℕ} {b : Counts} (ok : append_test x sheet ≡ 0) (h : Counted x sheet b s) where
   pub begins-ready : (header_size ≤ length x) × Ready (length x) sheet (plan_in s)
-  begins-ready = let ok = sym h.number ∙ z in ((header-inside (carries ok (h.state z))).0, began-ready ok (h.state z))
+  begins-ready = ((header-inside (carries ok h.state)).0, began-ready ok h.state)
 
   pub begins-append : (limit done : ℕ) (y : List ℕ) → done ≡ min limit (length (left s sheet)) → y ≡ exec sheet x (take done (left s sheet))
       → (record { number = 0; done = done; whole = b.whole; copied = b.copied } ≡ append_answer x sheet limit) × (y ≡ appended x sheet limit)
   begins-append limit done y d e =
-      let began = h.state z in
+      let began = h.state in
       let all = ap (λ w. left w sheet) began.words ∙ left-of began.plan x sheet 0 began.matches.long sheet in
-      let r = accepted-append (carried (sym h.number ∙ z) began) limit done y (d ∙ ap (λ l. min limit (length l)) all)
+      let r = accepted-append (carried ok began) limit done y (d ∙ ap (λ l. min limit (length l)) all)
       (e ∙ ap (λ l. exec sheet x (take done l)) all) in
       ((λ i. record { number = 0; done = done; whole = h.whole i; copied = h.copied i }) ∙ r.0, r.1)

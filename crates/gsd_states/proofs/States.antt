@@ -16,8 +16,9 @@ use Rattle.gsd_stores.specs.Append.{append_test}
 use Rattle.gsd_sheet.specs.Columns.{plan_words}
 use Rattle.gsd_extents.specs.Exec.{tasks, exec}
 use Rattle.gsd_steps.specs.Steps.{extents_of, Ready}
+use Rattle.gsd_turns.specs.declared.turn.Cursor.{Cursor}
 use Rattle.gsd_turns.specs.declared.turn.Turned.{Turned}
-use Rattle.gsd_turns.specs.Turns.{Stands, TurnSays}
+use Rattle.gsd_turns.specs.Turns.{ahead, Stands, TurnSays}
 use Rattle.gsd_feasible.specs.Feasible.{feasible}
 use Rattle.gsd_feasible.proofs.Plans.{feasible-ready, feasible-long}
 use Rattle.gsd_states.specs.States.{state_words, marks, state_of, plan_in, length_in, sheet_in, done_in, same_header, expects, goes_on, fits, left}
@@ -50,14 +51,17 @@ pub accepted-long : (x sheet : List ℕ) → append_test x sheet ≡ 0 → least
 unfolding append_test
 accepted-long x sheet h = ((verdict-zero x).0 (both _ _ h).0).front.low
 
--- A turn from the cursor behind the stores made
-module _ (s sheet : List ℕ) {x y : List ℕ} {r w limit : ℕ} {t : Turned} (at : Stands sheet (plan_in s) (done_in s) r w)
-    (says : TurnSays sheet x (plan_in s) r w limit t y) where
+-- A turn from the cursor behind the stores made, by the plan in front
+module _ (s sheet : List ℕ) {p x y : List ℕ} {from : Cursor} {limit : ℕ} {t : Turned} (front : p ≡ plan_in s)
+    (at : Stands sheet p (done_in s) from) (says : TurnSays sheet x p from limit t y) where
+  ahead-left : ahead sheet p from ≡ left s sheet
+  ahead-left = at.left ∙ ap (λ l. drop (done_in s) (tasks (extents_of sheet l))) front
+
   pub carried-made : t.made ≡ min limit (length (left s sheet))
-  carried-made = says.made ∙ ap (λ l. min limit (length l)) at.left
+  carried-made = says.made ∙ ap (λ l. min limit (length l)) ahead-left
 
   pub carried-image : y ≡ exec sheet x (take t.made (left s sheet))
-  carried-image = says.walked.image ∙ ap (λ l. exec sheet x (take t.made l)) at.left
+  carried-image = says.walked.image ∙ ap (λ l. exec sheet x (take t.made l)) ahead-left
 
   -- the stores made can be counted on
   pub carried-count : (n : ℕ) → Ready n sheet (plan_in s) → done_in s < 18446744073709551616 → done_in s + t.made < 18446744073709551616
@@ -100,6 +104,10 @@ fits-goes s x sheet h = rw h
 pub expects-lengths : (s x sheet : List ℕ) → expects s x sheet ≡ true → (length_in s ≡ length x) × (sheet_in s ≡ length sheet)
 unfolding expects
 expects-lengths s x sheet h = let b = both_true _ _ (both_true _ _ h).0 in (eqb-true _ _ b.0, eqb-true _ _ b.1)
+
+-- the plan in front is as good as that of the state
+pub feasible-of : {p q : List ℕ} (n m : ℕ) → p ≡ q → feasible n m q ≡ true → feasible n m p ≡ true
+feasible-of n m e h = ap (feasible n m) e ∙ h
 
 -- A state that fits has the lengths, and a plan that can be carried out
 pub record Told (s x sheet : List ℕ) : Type 0 where

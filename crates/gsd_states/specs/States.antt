@@ -4,7 +4,7 @@ use Rattle.std.specs.Prelude.{ℕ, ◌+◌, ◌≡◌, Bool, ◌&&◌, List, [],
 use Rattle.gsd_format.specs.Bytes.{le}
 use Rattle.gsd_format.specs.Header.{index_place, slots_place, namelist_place, segments_place, header_words}
 use Rattle.gsd_stores.specs.View.{view_of}
-use Rattle.gsd_stores.specs.Append.{append_test, stores_for, copied_entries}
+use Rattle.gsd_stores.specs.Append.{stores_for, copied_entries}
 use Rattle.gsd_stores.specs.Runs.{Bytes}
 use Rattle.gsd_sheet.specs.Columns.{plan_words}
 use Rattle.gsd_extents.specs.Exec.{Task, tasks}
@@ -74,9 +74,8 @@ pub record Began (x sheet s : List ℕ) : Type 0 where
   pub matches : Matches (view_of x) sheet (planned x sheet) plan
   pub words : s ≡ state_of plan x sheet 0
 
--- what a beginning counts, 0 and 0 where it is refused, and its state where it is accepted
+-- what a beginning counts that nothing refuses, and its state
 pub record Counted (x sheet : List ℕ) (b : Counts) (s : List ℕ) : Type 0 where
-  pub number : b.number ≡ append_test x sheet
   pub whole : b.whole ≡ length (stores_for x sheet)
   pub copied : b.copied ≡ copied_entries x sheet
-  pub state : b.number ≡ 0 → Began x sheet s
+  pub state : Began x sheet s

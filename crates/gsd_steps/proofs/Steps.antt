@@ -1,7 +1,7 @@
 -- Laws of a plan's list of extents: which extent stands where, how many there are, and that those of the entries are good.
 use Prim.Native.Nat.{ℕ, zero, suc, ◌+◌, ◌*◌, ◌-◌, ◌%◌, ◌≤◌, ◌<◌}
 use mathlib.Core.Path.{◌≡◌, refl, sym, ◌∙◌, ap}
-use mathlib.Core.List.{List, ◌++◌, append_assoc}
+use mathlib.Core.List.{List, [], ◌∷◌, ◌++◌, append_assoc}
 use native.Mathlib.Nat.{add-zero}
 use native.Mathlib.Omega.{arith}
 use lib.ListN.{length, get_or, length-append, get_or-append}
@@ -121,6 +121,14 @@ four-fit zero = (omega arith, refl)
 four-fit (suc zero) = (omega arith, refl)
 four-fit (suc (suc zero)) = (omega arith, refl)
 four-fit (suc (suc (suc i))) = (omega arith, refl)
+
+pub four-read : (i : ℕ) → i < 4 → get_or (0 ∷ 8 ∷ 24 ∷ 16 ∷ []) i 0 ≡ of_four 0 8 24 16 i
+unfolding of_four
+four-read zero h = refl
+four-read (suc zero) h = refl
+four-read (suc (suc zero)) h = refl
+four-read (suc (suc (suc zero))) h = refl
+four-read (suc (suc (suc (suc i)))) h = absurd (omega arith)
 
 -- its extents are good where its slot is
 pub good-entry : (n m : ℕ) (sheet p : List ℕ) → slot_in p % 8 ≡ 0 → slot_in p + 32 * rows_in p ≤ n → (k : ℕ) → k < 4 * rows_in p → Good n m (entry_extent sheet p k)

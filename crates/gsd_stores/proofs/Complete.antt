@@ -1,5 +1,6 @@
 -- The new frame is complete and exactly as requested, in any image that shows the plan's entries and names behind the old ones
 -- and holds the plan's data.
+use Rattle.std.specs.Prelude.{Ok}
 use Prim.Native.Nat.{ℕ, ◌+◌, ◌-◌, ◌≤◌, ◌<◌}
 use mathlib.Core.Path.{◌≡◌, refl, sym, ◌∙◌, ap}
 use mathlib.Core.List.{List, ◌++◌}
@@ -8,7 +9,6 @@ use native.Mathlib.Omega.{arith}
 use lib.ListN.{length, get_or, length-append, get_or-append}
 use lib.Seq.{get_or-append-add}
 use Rattle.gsd_format.specs.declared.Entry.{Entry}
-use Rattle.gsd_format.specs.declared.Listed.{Listed}
 use Rattle.gsd_format.specs.Names.{index_of, Has}
 use Rattle.gsd_format.specs.Entries.{frames_of}
 use Rattle.gsd_format.specs.Opening.{verdict}
@@ -73,7 +73,7 @@ module _ (v : View) (rs : List Row) (p : Plan) (y : List ℕ) (w : View) (h : Ap
         same_bytes = row-chunk v rs p r.plan ok i l y h.long h.body;
       }
 
-  no_other : (name : List ℕ) → ((i : ℕ) → i < length rs → (get_or rs i no_row).name ≡ name → ⊥) → (e : Entry) → lookup y (frames_of v.entries) name ≡ Listed.Found e → ⊥
+  no_other : (name : List ℕ) → ((i : ℕ) → i < length rs → (get_or rs i no_row).name ≡ name → ⊥) → (e : Entry) → lookup y (frames_of v.entries) name ≡ Ok e → ⊥
   no_other name f e g =
       let m = (look-found (v.entries ++ p.entries) (v.names ++ p.fresh) (frames_of v.entries) name e).0 (sym (look (frames_of v.entries) name) ∙ g) in
       let s : Stands (v.entries ++ p.entries) (frames_of v.entries) (index_of name (v.names ++ p.fresh)) e

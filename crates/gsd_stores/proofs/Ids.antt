@@ -1,11 +1,11 @@
 -- A listed name keeps its id: over a run of appends the name list only grows, behind what it has. So an id that was asked for once is
 -- good for every later reader.
+use Rattle.std.specs.Prelude.{Ok}
 use Prim.Native.Nat.{ℕ, zero, suc, ◌≤◌, ◌<◌}
 use mathlib.Core.Path.{◌≡◌, refl, sym, ◌∙◌, ap}
 use mathlib.Core.List.{List, [], ◌∷◌, ◌++◌, append_assoc, append-nil}
 use native.Mathlib.Omega.{arith}
 use lib.ListN.{length, take, drop, take-append-drop}
-use Rattle.gsd_format.specs.declared.Ident.{Ident}
 use Rattle.gsd_format.specs.Names.{names_of}
 use Rattle.gsd_format.specs.Readers.{ident_in}
 use Rattle.gsd_format.proofs.Ids.{index-append, has-front}
@@ -62,9 +62,9 @@ pub follows-longer : {x : List ℕ} {cs : List Call} {m y : List ℕ} → Follow
 follows-longer t = follows-leads Longer (λ a. ([], sym (append-nil (names_of a)))) longer-trans store-longer t
 
 pub follows-id : {x : List ℕ} {cs : List Call} {m y : List ℕ} → Follows x cs m y → (name : List ℕ) (id : ℕ) →
-    ident_in (names_of m) name ≡ Ident.Is id → ident_in (names_of y) name ≡ Ident.Is id
+    ident_in (names_of m) name ≡ Ok id → ident_in (names_of y) name ≡ Ok id
 follows-id {m = m} {y = y} t name id h =
     let (ms, more) = follows-longer t in
     let (is, low) = ident-is (names_of m) name id h in
     ap (λ ns. ident_in ns name) more ∙ ident-there (names_of m ++ ms) name (has-front name (names_of m) ms (omega (arith, is, low)))
-    ∙ ap Ident.Is (index-append name (names_of m) ms (omega (arith, is, low)) ∙ is)
+    ∙ ap Ok (index-append name (names_of m) ms (omega (arith, is, low)) ∙ is)

@@ -1,5 +1,6 @@
 -- What one image keeps of another: entries found stay found with their bytes, nothing appears in older frames, and names stay
 -- listed.
+use Rattle.std.specs.Prelude.{Result, Ok}
 use Prim.Native.Nat.{ℕ, ◌+◌, ◌*◌, ◌≤◌, ◌<◌}
 use mathlib.Core.Path.{◌≡◌, refl, ◌∙◌, sym}
 use mathlib.Core.Logic.{inr, ⊎_elim}
@@ -7,14 +8,13 @@ use mathlib.Core.List.{List}
 use native.Mathlib.Omega.{arith}
 use lib.ListN.{length, get_or}
 use Rattle.gsd_format.specs.declared.Entry.{Entry}
-use Rattle.gsd_format.specs.declared.Listed.{Listed}
 use Rattle.gsd_format.specs.Bytes.{part}
 use Rattle.gsd_format.specs.Header.{layout_of}
 use Rattle.gsd_format.specs.Names.{names_of, Has}
 use Rattle.gsd_format.specs.Entries.{entries_of}
 use Rattle.gsd_format.specs.Opening.{verdict}
 use Rattle.gsd_format.specs.Lookup.{lookup, lookup_in, chunk_of}
-use Rattle.gsd_format.specs.Answers.{listed_number}
+use Rattle.gsd_format.specs.Answers.{number_of}
 use Rattle.gsd_format.proofs.Lookup.{opened-lookup, look-found, look-41, look-42, look-absent}
 use Rattle.gsd_stores.specs.Sheet.{Row}
 use Rattle.gsd_stores.specs.Runs.{frames}
@@ -23,9 +23,9 @@ use Rattle.gsd_stores.specs.Demand3.{Absent, Recorded, Complete, no_row}
 -- b keeps what a has
 pub record Keep (a b : List ℕ) : Type 0 where
   pub grow : frames a ≤ frames b
-  pub kept : (frame : ℕ) (name : List ℕ) (e : Entry) → lookup a frame name ≡ Listed.Found e → lookup b frame name ≡ Listed.Found e
-  pub back : (frame : ℕ) (name : List ℕ) (e : Entry) → frame < frames a → lookup b frame name ≡ Listed.Found e → lookup a frame name ≡ Listed.Found e
-  pub chunk : (frame : ℕ) (name : List ℕ) (e : Entry) → lookup a frame name ≡ Listed.Found e → chunk_of b e ≡ chunk_of a e
+  pub kept : (frame : ℕ) (name : List ℕ) (e : Entry) → lookup a frame name ≡ Ok e → lookup b frame name ≡ Ok e
+  pub back : (frame : ℕ) (name : List ℕ) (e : Entry) → frame < frames a → lookup b frame name ≡ Ok e → lookup a frame name ≡ Ok e
+  pub chunk : (frame : ℕ) (name : List ℕ) (e : Entry) → lookup a frame name ≡ Ok e → chunk_of b e ≡ chunk_of a e
   pub named : (name : List ℕ) → Has name (names_of a) → Has name (names_of b)
   pub many : length (entries_of a) ≤ length (entries_of b)
   pub bytes : (i : ℕ) → i < length (entries_of a) → part b ((layout_of b).index + 32 * i) 32 ≡ part a ((layout_of a).index + 32 * i) 32
@@ -52,21 +52,20 @@ keep-trans a b c p q = record {
   bytes = λ i l. q.bytes i (omega (arith, p.many)) ∙ p.bytes i l;
 }
 
-number-found : (l : Listed) (e : Entry) → l ≡ Listed.Found e → listed_number l ≡ 0
-unfolding listed_number
+number-found : (l : Result Entry ℕ) (e : Entry) → l ≡ Ok e → number_of l ≡ 0
 number-found l e h = rw h
 
 -- a lookup that gives 41 or 42 finds nothing
-pub absent_none : (a : List ℕ) (frame : ℕ) (name : List ℕ) (e : Entry) → Absent a frame name → lookup a frame name ≡ Listed.Found e → ⊥
+pub absent_none : (a : List ℕ) (frame : ℕ) (name : List ℕ) (e : Entry) → Absent a frame name → lookup a frame name ≡ Ok e → ⊥
 absent_none a frame name e h g =
     ⊎_elim (λ n. omega (arith, n, number-found (lookup a frame name) e g)) (λ n. omega (arith, n, number-found (lookup a frame name) e g)) h
 
 -- what is found is in a frame that is there
-pub found_below : (a : List ℕ) → verdict a ≡ 0 → (frame : ℕ) (name : List ℕ) (e : Entry) → lookup a frame name ≡ Listed.Found e → frame < frames a
+pub found_below : (a : List ℕ) → verdict a ≡ 0 → (frame : ℕ) (name : List ℕ) (e : Entry) → lookup a frame name ≡ Ok e → frame < frames a
 found_below a o frame name e f = ((look-found (entries_of a) (names_of a) frame name e).0 (sym (opened-lookup a o frame name) ∙ f)).0
 
 -- a lookup in a frame that is there finds an entry, or gives 41 or 42
-pub none-absent : (a : List ℕ) (frame : ℕ) (name : List ℕ) → verdict a ≡ 0 → frame < frames a → ((e : Entry) → lookup a frame name ≡ Listed.Found e → ⊥) → Absent a frame name
+pub none-absent : (a : List ℕ) (frame : ℕ) (name : List ℕ) → verdict a ≡ 0 → frame < frames a → ((e : Entry) → lookup a frame name ≡ Ok e → ⊥) → Absent a frame name
 none-absent a frame name o l h =
     let q : lookup a frame name ≡ lookup_in (entries_of a) (names_of a) frame name = opened-lookup a o frame name in
     rw q (look-absent (entries_of a) (names_of a) frame name l (λ e g. h e (q ∙ g)))
@@ -78,7 +77,7 @@ absent-kept a b p o frame name l h =
 
 -- and a name that is listed stays listed: 42 never becomes 41
 pub named-kept : (a b : List ℕ) → Keep a b → verdict a ≡ 0 → verdict b ≡ 0 → (frame : ℕ) (name : List ℕ) →
-    listed_number (lookup a frame name) ≡ 42 → listed_number (lookup b frame name) ≡ 42
+    number_of (lookup a frame name) ≡ 42 → number_of (lookup b frame name) ≡ 42
 named-kept a b p oa ob frame name h =
     let (there, listed, lacks) = (look-42 (entries_of a) (names_of a) frame name).0 (rw (opened-lookup a oa frame name) at h) in
     ⊎_elim

@@ -1,5 +1,6 @@
 -- The claims about readings hold: 30 is given by one test, behind which stand 28 and 29 alone; and a frame of a run has the
 -- elements of an accepted sheet.
+use Rattle.std.specs.Prelude.{Ok}
 use Prim.Native.Nat.{ℕ, ◌+◌, ◌*◌, ◌-◌, ◌<◌}
 use mathlib.Core.Path.{◌≡◌, refl, sym, ◌∙◌, ap}
 use mathlib.Core.Bool.{Bool, true, false, true≢false}
@@ -9,7 +10,6 @@ use native.Mathlib.Decide.{dec_lt, ℕ_discrete}
 use native.Mathlib.Omega.{arith}
 use lib.ListN.{get_or, length, length-map, get_or-map}
 use Rattle.gsd_format.specs.declared.Entry.{Entry}
-use Rattle.gsd_format.specs.declared.Listed.{Listed}
 use Rattle.gsd_format.specs.Refusals.{◌⇒◌, ◌▹◌}
 use Rattle.gsd_format.specs.Types.{chunk_size}
 use Rattle.gsd_format.specs.Names.{index_of, Has}
@@ -113,7 +113,7 @@ recorded-nan img frame r q e f =
 
 -- no row of a complete frame has a NaN, so no element found there is one
 complete-defined : (img : List ℕ) (frame : ℕ) (rs : List Row) → Complete img frame rs → any_nan_row rs ≡ false → (name : List ℕ) (e : Entry)
-    → lookup img frame name ≡ Listed.Found e → any_nan e.kind img e.location (e.n * e.m) ≡ false
+    → lookup img frame name ≡ Ok e → any_nan e.kind img e.location (e.n * e.m) ≡ false
 complete-defined img frame rs whole none name e found = go (dec_lt (index_of name (row_names rs)) (length (row_names rs)))
   where
     row-name : (i : ℕ) → get_or (row_names rs) i [] ≡ (get_or rs i no_row).name
@@ -124,7 +124,7 @@ complete-defined img frame rs whole none name e found = go (dec_lt (index_of nam
         let i : ℕ = index_of name (row_names rs) in
         let l : i < length rs = rw (length-map rs (λ r. r.name)) at h in
         let q : Recorded img frame (get_or rs i no_row) = whole.each i l in
-        let same : Listed.Found q.entry ≡ Listed.Found e = sym q.found ∙ ap (lookup img frame) (sym (row-name i) ∙ index_at name (row_names rs) h) ∙ found in
+        let same : Ok q.entry ≡ Ok e = sym q.found ∙ ap (lookup img frame) (sym (row-name i) ∙ index_at name (row_names rs) h) ∙ found in
         let it : q.entry ≡ e = cc in
         recorded-nan img frame (get_or rs i no_row) q e it ∙ each_at _ rs no_row (one-false nan_row rs none) i l
     go (no h) = absurd (absent_none img frame name e (whole.others name (λ i l f. h (has-at name (row_names rs) i (rw (length-map rs (λ r. r.name)) l) (row-name i ∙ f)))) found)

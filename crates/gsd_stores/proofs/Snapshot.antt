@@ -1,5 +1,6 @@
 -- A reader is a snapshot: over a run of appends nothing that a moment lists is ever written again, not where it lay then. So what the
 -- reader of that moment asks for stands there at every later one.
+use Rattle.std.specs.Prelude.{Ok}
 use Prim.Native.Nat.{ℕ, suc, ◌+◌, ◌<◌}
 use mathlib.Core.Path.{◌≡◌, refl, sym, ◌∙◌, ap}
 use mathlib.Core.Bool.{Bool, true, false, true≢false}
@@ -7,7 +8,6 @@ use mathlib.Core.List.{List}
 use native.Mathlib.Omega.{arith}
 use lib.ListN.{length, get_or, take}
 use Rattle.gsd_format.specs.declared.Reader.{Reader}
-use Rattle.gsd_format.specs.declared.Reading.{Reading}
 use Rattle.gsd_format.specs.Header.{v10, version_of, layout_of}
 use Rattle.gsd_format.specs.Names.{names_of, flat}
 use Rattle.gsd_format.specs.Entries.{entries_of}
@@ -100,6 +100,6 @@ follows-in-place x cs o {m} {y} t = go (v10 (version_of m)) refl
 
 -- Theorem: a reader that opening gave at a moment of a run answers at every later moment, in half-made appends too, exactly as the
 -- calls did at its own
-pub snapshot : (x : List ℕ) (cs : List Call) → verdict x ≡ 0 → {m y : List ℕ} → Follows x cs m y → (r : Reader) → reading m ≡ Reading.Ready r →
+pub snapshot : (x : List ℕ) (cs : List Call) → verdict x ≡ 0 → {m y : List ℕ} → Follows x cs m y → (r : Reader) → reading m ≡ Ok r →
     Reads r y m
 snapshot x cs o {m} {y} t r h = in_place_reads m y r h (follows-in-place x cs o t)

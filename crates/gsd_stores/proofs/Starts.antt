@@ -1,5 +1,6 @@
 -- All that the appends of a run lay out starts at multiples of 64: the chunks by the plan, the blocks by what their header words
 -- get.
+use Rattle.std.specs.Prelude.{Result, Ok, Err}
 use Prim.Native.Nat.{ℕ, ◌+◌, ◌-◌, ◌%◌, ◌^◌, ◌≤◌, ◌<◌}
 use mathlib.Core.Path.{◌≡◌, refl, sym, ◌∙◌, ap}
 use mathlib.Core.Logic.{inl, inr}
@@ -10,8 +11,6 @@ use native.Mathlib.Omega.{arith}
 use lib.ListN.{length, get_or, take, length-append, get_or-append}
 use lib.Seq.{take_all, get_or-append-add}
 use Rattle.gsd_format.specs.declared.Entry.{Entry}
-use Rattle.gsd_format.specs.declared.Listed.{Listed}
-use Rattle.gsd_format.specs.declared.Opening.{Opening}
 use Rattle.gsd_format.specs.Bytes.{le, stored}
 use Rattle.gsd_format.specs.Header.{alignment, layout_of}
 use Rattle.gsd_format.specs.Names.{names_of, index_of}
@@ -146,12 +145,12 @@ call-chunks x c k h o frame name e l f = go (ℕ_discrete (append_test x c.sheet
 
 -- from a moment of a run to its first: what is found in a frame that was there was found
 earlier : {x : List ℕ} {cs : List Call} {m : List ℕ} → Moment x cs m → verdict x ≡ 0 → (frame : ℕ) (name : List ℕ) (e : Entry) → frame < frames x →
-    lookup m frame name ≡ Listed.Found e → lookup x frame name ≡ Listed.Found e
+    lookup m frame name ≡ Ok e → lookup x frame name ≡ Ok e
 earlier {x} {cs} {m} t o frame name e l f = go (lookup x frame name) refl
   where
-    go : (r : Listed) → lookup x frame name ≡ r → lookup x frame name ≡ Listed.Found e
-    go (Listed.Found d) g = g ∙ sym ((demand3 x cs o).kept (from_start t) frame name d g) ∙ f
-    go (Listed.Refused n) g =
+    go : (r : Result Entry ℕ) → lookup x frame name ≡ r → lookup x frame name ≡ Ok e
+    go (Ok d) g = g ∙ sym ((demand3 x cs o).kept (from_start t) frame name d g) ∙ f
+    go (Err n) g =
         absurd (absent_none m frame name e ((demand3 x cs o).absent (from_start t) frame name l
         (none-absent x frame name o l (λ d q. let z : ◌≡◌ {A = ℕ} 0 1 = cc in omega (arith, z)))) f)
 
@@ -190,7 +189,7 @@ created-starts slice application schema schema_version slots segments h n t =
     let x : List ℕ = created slice application schema schema_version slots segments in
     let opens : verdict x ≡ 0 = created-opens slice application schema schema_version slots segments n in
     let is = created-fresh slice application schema schema_version slots segments h n in
-    let same : Opening.Open (counts_of x) ≡ Opening.Open (record { frames = 0; names = 0; entries = 0 }) = sym (opening-open x opens) ∙ is.opens in
+    let same : Ok (counts_of x) ≡ Ok (record { frames = 0; names = 0; entries = 0 }) = sym (opening-open x opens) ∙ is.opens in
     let counts : counts_of x ≡ record { frames = 0; names = 0; entries = 0 } = cc in
     let empty : frames x ≡ 0 = ap (λ c. c.frames) counts in
     let s : Starts x _ = run-starts opens t in

@@ -1,6 +1,8 @@
 -- The append: numbers 20 to 31 after the opening's, and what it answers and leaves for any limit of stores.
-use Rattle.std.specs.Prelude.{ℕ, zero, suc, ◌+◌, ◌*◌, ◌/◌, ◌%◌, min, List, [], not, ◌||◌, length, take, ltb, eqb}
+use Rattle.std.specs.Prelude.{ℕ, zero, suc, ◌+◌, ◌*◌, ◌/◌, ◌%◌, min, List, [], not, ◌||◌, length, take, ltb, eqb, Result, Ok, Err}
 use Rattle.gsd_format.specs.declared.Layout.{Layout}
+use Rattle.gsd_format.specs.declared.refusal.Refusal.{Refusal}
+use Rattle.gsd_format.specs.Answers.{refusal_number}
 use Rattle.gsd_format.specs.Refusals.{◌⇒◌, ◌▹◌}
 use Rattle.gsd_format.specs.Header.{v10}
 use Rattle.gsd_format.specs.Entries.{entries_of, frames_of}
@@ -48,14 +50,26 @@ step_five img sheet = elim (append_test img sheet) [ zero ↦ move_index img (vi
 unfoldable pub copied_entries : List ℕ → List ℕ → ℕ
 copied_entries img sheet = length (take (slot_words * length (entries_of img)) (step_five img sheet)) / slot_words
 
+-- what an append answers: its number, how many stores are done, how many the whole append takes and how many entries it copies
+pub record Answer : Type 0 where
+  pub number : ℕ
+  pub done : ℕ
+  pub whole : ℕ
+  pub copied : ℕ
+
 -- the first so many stores are done: the smaller of limit and whole; the other two are the whole append's at any limit
-unfoldable pub append_answer : List ℕ → List ℕ → ℕ → Appended
+unfoldable pub append_answer : List ℕ → List ℕ → ℕ → Answer
 append_answer img sheet limit = record {
   number = append_test img sheet;
   done = min limit (length (stores_for img sheet));
   whole = length (stores_for img sheet);
   copied = copied_entries img sheet;
 }
+
+-- what the code answers: a refused append has done nothing
+abbrev pub answered : Result Appended Refusal → Answer
+answered (Ok a) = record { number = 0; done = a.done; whole = a.whole; copied = a.copied }
+answered (Err r) = record { number = refusal_number r; done = 0; whole = 0; copied = 0 }
 
 unfoldable pub appended : List ℕ → List ℕ → ℕ → List ℕ
 appended img sheet limit = after img (take (min limit (length (stores_for img sheet))) (stores_for img sheet))

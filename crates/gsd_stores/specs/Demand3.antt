@@ -1,21 +1,20 @@
 -- Demand 3: what a run of appends keeps, and when a frame is there. One claim about the whole run, from any image that
 -- opens; proved in proofs/.
-use Rattle.std.specs.Prelude.{ℕ, ◌+◌, ◌*◌, ◌≤◌, ◌<◌, ◌≡◌, ◌⊎◌, true, List, [], get_or, length}
+use Rattle.std.specs.Prelude.{ℕ, ◌+◌, ◌*◌, ◌≤◌, ◌<◌, ◌≡◌, ◌⊎◌, true, List, [], get_or, length, Ok}
 use Rattle.gsd_format.specs.declared.Entry.{Entry}
-use Rattle.gsd_format.specs.declared.Listed.{Listed}
 use Rattle.gsd_format.specs.Bytes.{part}
 use Rattle.gsd_format.specs.Header.{slot_size, layout_of}
 use Rattle.gsd_format.specs.Entries.{entries_of}
 use Rattle.gsd_format.specs.Opening.{verdict}
 use Rattle.gsd_format.specs.Lookup.{lookup, chunk_of}
-use Rattle.gsd_format.specs.Answers.{listed_number}
+use Rattle.gsd_format.specs.Answers.{number_of}
 use Rattle.gsd_stores.specs.Sheet.{Row}
 use Rattle.gsd_stores.specs.Append.{stores_for}
 use Rattle.gsd_stores.specs.Runs.{Call, Moment, Follows, Begins, after_call, after_run, after_stores, frames, last_store_made, completed}
 
 -- None found there: the lookup gives 41 or 42.
 abbrev pub Absent : List ℕ → ℕ → List ℕ → Type 0
-Absent img frame name = (listed_number (lookup img frame name) ≡ 41) ⊎ (listed_number (lookup img frame name) ≡ 42)
+Absent img frame name = (number_of (lookup img frame name) ≡ 41) ⊎ (number_of (lookup img frame name) ≡ 42)
 
 -- a row that no sheet has
 abbrev pub no_row : Row
@@ -24,7 +23,7 @@ no_row = record { name = []; n = 0; m = 0; kind = 0; body = [] }
 -- the row's name is found in the frame, with the row's N, M and type and the row's data as its bytes
 pub record Recorded (img : List ℕ) (frame : ℕ) (r : Row) : Type 0 where
   pub entry : Entry
-  pub found : lookup img frame r.name ≡ Listed.Found entry
+  pub found : lookup img frame r.name ≡ Ok entry
   pub same_n : entry.n ≡ r.n
   pub same_m : entry.m ≡ r.m
   pub same_type : entry.kind ≡ r.kind
@@ -43,9 +42,9 @@ pub record Demand3 (x : List ℕ) (cs : List Call) : Type 0 where
   -- From a moment to any later one, the run's end among them (`end-follows` in proofs/Runs.antt):
   -- everything ever found is found unchanged: the same entry, and the same bytes of its chunk
   pub kept : {m n : List ℕ} → Follows x cs m n → (frame : ℕ) (name : List ℕ) (e : Entry) →
-      lookup m frame name ≡ Listed.Found e → lookup n frame name ≡ Listed.Found e
+      lookup m frame name ≡ Ok e → lookup n frame name ≡ Ok e
   pub chunk : {m n : List ℕ} → Follows x cs m n → (frame : ℕ) (name : List ℕ) (e : Entry) →
-      lookup m frame name ≡ Listed.Found e → chunk_of n e ≡ chunk_of m e
+      lookup m frame name ≡ Ok e → chunk_of n e ≡ chunk_of m e
   -- the same entry is the same in all 32 bytes
   pub bytes : {m n : List ℕ} → Follows x cs m n → (i : ℕ) → i < length (entries_of m) →
       part n ((layout_of n).index + slot_size * i) slot_size ≡ part m ((layout_of m).index + slot_size * i) slot_size
@@ -53,7 +52,7 @@ pub record Demand3 (x : List ℕ) (cs : List Call) : Type 0 where
   -- 42, and nothing turns 42 into 41
   pub absent : {m n : List ℕ} → Follows x cs m n → (frame : ℕ) (name : List ℕ) → frame < frames m → Absent m frame name → Absent n frame name
   pub named : {m n : List ℕ} → Follows x cs m n → (frame : ℕ) (name : List ℕ) →
-      listed_number (lookup m frame name) ≡ 42 → listed_number (lookup n frame name) ≡ 42
+      number_of (lookup m frame name) ≡ 42 → number_of (lookup n frame name) ≡ 42
   -- the number of frames never falls; within an append it is that of the beginning until the last store
   pub grows : {m n : List ℕ} → Follows x cs m n → frames m ≤ frames n
   pub steady : {y : List ℕ} {c : Call} → Begins x cs y c → (k : ℕ) → k < length (stores_for y c.sheet) → frames (after_stores y c k) ≡ frames y

@@ -1,8 +1,7 @@
 -- No undefined readings: an accepted sheet holds no NaN, when exactly an append is refused with 30, and what follows for the
 -- record. Claims about any image and any sheet, and about any run; proved in proofs/.
-use Rattle.std.specs.Prelude.{ℕ, ◌*◌, ◌≤◌, ◌<◌, ◌≡◌, List, get_or, length}
+use Rattle.std.specs.Prelude.{ℕ, ◌*◌, ◌≤◌, ◌<◌, ◌≡◌, List, get_or, length, Ok}
 use Rattle.gsd_format.specs.declared.Entry.{Entry}
-use Rattle.gsd_format.specs.declared.Listed.{Listed}
 use Rattle.gsd_format.specs.Refusals.{◌▹◌}
 use Rattle.gsd_format.specs.Entries.{frames_of}
 use Rattle.gsd_format.specs.Opening.{verdict}
@@ -38,5 +37,5 @@ pub record Readings (img sheet : List ℕ) : Type 0 where
 
 -- from this frame on no element of a chunk that is found is one
 abbrev pub Defined : List ℕ → ℕ → Type 0
-Defined img first = (frame : ℕ) (name : List ℕ) (e : Entry) → first ≤ frame → lookup img frame name ≡ Listed.Found e →
+Defined img first = (frame : ℕ) (name : List ℕ) (e : Entry) → first ≤ frame → lookup img frame name ≡ Ok e →
     (k : ℕ) → k < e.n * e.m → NanAt e.kind img e.location k → ⊥

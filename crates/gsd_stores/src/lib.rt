@@ -2,11 +2,9 @@
 // appends keeps everything it found is proved in proofs/.
 #![tactic(auto)]
 
-// The number, 0 for none, how many stores were done, how many the whole append takes, and how many listed entries it
-// copies where it moves the index.
+// How many stores were done, how many the whole append takes, and how many listed entries it copies where it moves the index.
 #[derive(Clone, Copy)]
 pub struct Appended {
-    pub number: u64,
     pub done: u64,
     pub whole: u64,
     pub copied: u64,

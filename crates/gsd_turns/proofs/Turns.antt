@@ -17,9 +17,14 @@ use Rattle.gsd_extents.proofs.Tasks.{tasks_from-length, tasks-rest, rest-take, r
 use Rattle.gsd_extents.proofs.Tasks.{exec-append, exec-length, exec-after, stores_of-length}
 use Rattle.gsd_steps.specs.Steps.{extents_of, extent_count, Ready}
 use Rattle.gsd_steps.proofs.Steps.{extents-length}
+use Rattle.gsd_turns.specs.declared.turn.Cursor.{Cursor}
 use Rattle.gsd_turns.specs.declared.turn.Turned.{Turned}
-use Rattle.gsd_turns.specs.Turns.{ahead, Cursor, Stands, Walked, TurnSays}
+use Rattle.gsd_turns.specs.Turns.{ahead, IsCursor, Stands, Walked, TurnSays}
 use Rattle.gsd_turns.proofs.Count.{count-cons}
+
+-- the cursor at word w of the r-th extent
+abbrev pub word_at : ℕ → ℕ → Cursor
+word_at r w = record { extent = r; word = w }
 
 -- Some of the tasks are done
 
@@ -37,15 +42,15 @@ walked_more sheet img₀ all k img here n h l = record {
 
 -- The loop over the extents
 
-pub record Turning (sheet img₀ p : List ℕ) (r₀ w₀ limit : ℕ) (img : List ℕ) (r w left : ℕ) : Type 0 where
-  pub walked : Walked sheet img₀ (ahead sheet p r₀ w₀) (limit - left) img (ahead sheet p r w)
+pub record Turning (sheet img₀ p : List ℕ) (c₀ : Cursor) (limit : ℕ) (img : List ℕ) (r w left : ℕ) : Type 0 where
+  pub walked : Walked sheet img₀ (ahead sheet p c₀) (limit - left) img (ahead sheet p (word_at r w))
   pub free : left ≤ limit
-  pub cursor : Cursor sheet p r w
+  pub cursor : IsCursor sheet p (word_at r w)
   pub long : length img ≡ length img₀
 
-pub turning-none : {sheet img p : List ℕ} {r w limit : ℕ} → Cursor sheet p r w → Turning sheet img p r w limit img r w limit
+pub turning-none : {sheet img p : List ℕ} {r w limit : ℕ} → IsCursor sheet p (word_at r w) → Turning sheet img p (word_at r w) limit img r w limit
 turning-none {sheet} {img} {p} {r} {w} c = record {
-  walked = rw sub_self (walked_none sheet img (ahead sheet p r w));
+  walked = rw sub_self (walked_none sheet img (ahead sheet p (word_at r w)));
   free = omega arith;
   cursor = c;
   long = refl;
@@ -59,33 +64,33 @@ module _ (sheet p : List ℕ) (r w : ℕ) (x : Extent) (here : x ≡ get_or (ext
   first-extent : drop r (extents_of sheet p) ≡ x ∷ later
   first-extent = rw (add-one, here) (drop-cons (extents_of sheet p) r none (rw extents-length inside))
 
-  ahead-take : (n : ℕ) → n ≤ x.words - w → take n (ahead sheet p r w) ≡ tasks_from x w n
+  ahead-take : (n : ℕ) → n ≤ x.words - w → take n (ahead sheet p (word_at r w)) ≡ tasks_from x w n
   ahead-take n h = rw first-extent (rest-take x later w n h)
 
-  ahead-drop : (n : ℕ) → n ≤ x.words - w → drop n (ahead sheet p r w) ≡ ahead sheet p r (w + n)
+  ahead-drop : (n : ℕ) → n ≤ x.words - w → drop n (ahead sheet p (word_at r w)) ≡ ahead sheet p (word_at r (w + n))
   ahead-drop n h = rw first-extent (rest-drop x later w n h)
 
-  ahead-next : x.words ≤ w → ahead sheet p r w ≡ ahead sheet p (r + 1) 0
+  ahead-next : x.words ≤ w → ahead sheet p (word_at r w) ≡ ahead sheet p (word_at (r + 1) 0)
   ahead-next h = rw first-extent (rest-next x later w h)
 
-  ahead-length : x.words - w ≤ length (ahead sheet p r w)
+  ahead-length : x.words - w ≤ length (ahead sheet p (word_at r w))
   ahead-length = rw first-extent (omega (arith, rest-length x later w))
 
 -- behind all extents nothing is left
-ahead-end : (sheet p : List ℕ) (r w : ℕ) → extent_count p ≤ r → ahead sheet p r w ≡ []
+ahead-end : (sheet p : List ℕ) (r w : ℕ) → extent_count p ≤ r → ahead sheet p (word_at r w) ≡ []
 unfolding rest
 ahead-end sheet p r w h =
     let over : length (extents_of sheet p) ≤ r = rw extents-length h in
     rw (drop_of_length-le (extents_of sheet p) over)
 
-module _ {sheet img₀ p : List ℕ} {r₀ w₀ limit : ℕ} {img : List ℕ} {r w left : ℕ} (h : Turning sheet img₀ p r₀ w₀ limit img r w left) where
+module _ {sheet img₀ p : List ℕ} {c₀ : Cursor} {limit : ℕ} {img : List ℕ} {r w left : ℕ} (h : Turning sheet img₀ p c₀ limit img r w left) where
   module _ {x : Extent} (here : x ≡ get_or (extents_of sheet p) r none) (inside : r < extent_count p) where
     extent-some : (n : ℕ) → n ≤ x.words - w
-        → Walked sheet img₀ (ahead sheet p r₀ w₀) (limit - left + n) (exec sheet img (tasks_from x w n)) (ahead sheet p r (w + n))
+        → Walked sheet img₀ (ahead sheet p c₀) (limit - left + n) (exec sheet img (tasks_from x w n)) (ahead sheet p (word_at r (w + n)))
     extent-some n l =
-        let few : n ≤ length (ahead sheet p r w) = omega (arith, ahead-length sheet p r w x here inside) in
+        let few : n ≤ length (ahead sheet p (word_at r w)) = omega (arith, ahead-length sheet p r w x here inside) in
         rw (← ahead-take sheet p r w x here inside n l, ← ahead-drop sheet p r w x here inside n l)
-        (walked_more sheet img₀ (ahead sheet p r₀ w₀) (limit - left) img (ahead sheet p r w) n h.walked few)
+        (walked_more sheet img₀ (ahead sheet p c₀) (limit - left) img (ahead sheet p (word_at r w)) n h.walked few)
 
     pub extent-word : w ≤ x.words
     extent-word = rw here h.cursor.word
@@ -95,7 +100,7 @@ module _ {sheet img₀ p : List ℕ} {r₀ w₀ limit : ℕ} {img : List ℕ} {r
 
     -- as many of its words as the limit lets be made
     pub extent-made : (n : ℕ) → n ≡ min left (x.words - w)
-        → Turning sheet img₀ p r₀ w₀ limit (exec sheet img (tasks_from x w n)) r (w + n) (left - n)
+        → Turning sheet img₀ p c₀ limit (exec sheet img (tasks_from x w n)) r (w + n) (left - n)
     extent-made n e =
         let made : limit - (left - n) ≡ limit - left + n = omega (arith, h.free) in
         record {
@@ -106,7 +111,7 @@ module _ {sheet img₀ p : List ℕ} {r₀ w₀ limit : ℕ} {img : List ℕ} {r
         }
 
     -- all its words are made
-    pub extent-over : x.words ≤ w → Turning sheet img₀ p r₀ w₀ limit img (r + 1) 0 left
+    pub extent-over : x.words ≤ w → Turning sheet img₀ p c₀ limit img (r + 1) 0 left
     extent-over l = record {
       walked = rw (← ahead-next sheet p r w x here inside l) h.walked;
       free = h.free;
@@ -115,29 +120,29 @@ module _ {sheet img₀ p : List ℕ} {r₀ w₀ limit : ℕ} {img : List ℕ} {r
     }
 
   -- the limit is reached
-  pub turn-stop : left ≡ 0 → TurnSays sheet img₀ p r₀ w₀ limit (record { extent = r; word = w; made = limit - left }) img
+  pub turn-stop : left ≡ 0 → TurnSays sheet img₀ p c₀ limit (record { cursor = word_at r w; made = limit - left }) img
   turn-stop e = record { walked = h.walked; made = omega (arith, h.free, h.walked.within); cursor = h.cursor }
 
   -- all extents are made
-  pub turn_end : extent_count p ≤ r → TurnSays sheet img₀ p r₀ w₀ limit (record { extent = r; word = 0; made = limit - left }) img
-  turn_end l =
-      let none_left : [] ≡ drop (limit - left) (ahead sheet p r₀ w₀) = sym (ahead-end sheet p r w l) ∙ h.walked.left in
+  pub turn_end : (n : ℕ) → n ≡ extent_count p → n ≤ r → TurnSays sheet img₀ p c₀ limit (record { cursor = word_at n 0; made = limit - left }) img
+  turn_end n e l =
+      let none_left : [] ≡ drop (limit - left) (ahead sheet p c₀) = sym (ahead-end sheet p r w (omega (arith, e))) ∙ h.walked.left in
       record {
-        walked = record { image = h.walked.image; left = ahead-end sheet p r 0 l ∙ none_left; within = h.walked.within };
-        made = omega (arith, h.free, h.walked.within, ap length none_left ∙ length-drop (limit - left) (ahead sheet p r₀ w₀));
-        cursor = record { extent = h.cursor.extent; word = omega arith };
+        walked = record { image = h.walked.image; left = ahead-end sheet p n 0 (omega (arith, e)) ∙ none_left; within = h.walked.within };
+        made = omega (arith, h.free, h.walked.within, ap length none_left ∙ length-drop (limit - left) (ahead sheet p c₀));
+        cursor = record { extent = omega (arith, e, extents-length sheet p); word = omega arith };
       }
 
 -- A turn from the beginning, by the stores of all tasks
 
-pub first-cursor : (sheet p : List ℕ) → Cursor sheet p 0 0
+pub first-cursor : (sheet p : List ℕ) → IsCursor sheet p (word_at 0 0)
 first-cursor sheet p = record { extent = omega arith; word = omega arith }
 
-module _ (sheet img p : List ℕ) (limit : ℕ) (t : Turned) (img' : List ℕ) (h : TurnSays sheet img p 0 0 limit t img') where
+module _ (sheet img p : List ℕ) (limit : ℕ) (t : Turned) (img' : List ℕ) (h : TurnSays sheet img p (word_at 0 0) limit t img') where
   abbrev all-stores : List Store
   all-stores = stores_of sheet img (tasks (extents_of sheet p))
 
-  all-ahead : ahead sheet p 0 0 ≡ tasks (extents_of sheet p)
+  all-ahead : ahead sheet p (word_at 0 0) ≡ tasks (extents_of sheet p)
   all-ahead = sym (tasks-rest (extents_of sheet p))
 
   pub turn-made : t.made ≡ min limit (length all-stores)
@@ -147,12 +152,12 @@ module _ (sheet img p : List ℕ) (limit : ℕ) (t : Turned) (img' : List ℕ) (
   turn-image = rw (← exec-after sheet img (tasks (extents_of sheet p)) t.made, ← all-ahead) h.walked.image
 
 -- turns in a row are one with the sum of their limits
-pub turns-join : (sheet img p : List ℕ) (r w l₁ l₂ : ℕ) (t u : Turned) (img₁ img₂ : List ℕ)
-    → TurnSays sheet img p r w l₁ t img₁ → TurnSays sheet img₁ p t.extent t.word l₂ u img₂
-    → TurnSays sheet img p r w (l₁ + l₂) (record { extent = u.extent; word = u.word; made = t.made + u.made }) img₂
-turns-join sheet img p r w l₁ l₂ t u img₁ img₂ h g =
-    let all : List Task = ahead sheet p r w in
-    let next : List Task = ahead sheet p t.extent t.word in
+pub turns-join : (sheet img p : List ℕ) (c : Cursor) (l₁ l₂ : ℕ) (t u : Turned) (img₁ img₂ : List ℕ)
+    → TurnSays sheet img p c l₁ t img₁ → TurnSays sheet img₁ p t.cursor l₂ u img₂
+    → TurnSays sheet img p c (l₁ + l₂) (record { cursor = u.cursor; made = t.made + u.made }) img₂
+turns-join sheet img p c l₁ l₂ t u img₁ img₂ h g =
+    let all : List Task = ahead sheet p c in
+    let next : List Task = ahead sheet p t.cursor in
     let there : length next ≡ length all - t.made = ap length h.walked.left ∙ length-drop t.made all in
     record {
       walked = rw (g.walked.image, g.walked.left) (walked_more sheet img all t.made img₁ next u.made h.walked g.walked.within);
@@ -164,7 +169,7 @@ turns-join sheet img p r w l₁ l₂ t u img₁ img₂ h g =
 
 pub record Sought (sheet p : List ℕ) (done r left : ℕ) : Type 0 where
   pub extent : r ≤ length (extents_of sheet p)
-  pub here : drop left (ahead sheet p r 0) ≡ drop done (tasks (extents_of sheet p))
+  pub here : drop left (ahead sheet p (word_at r 0)) ≡ drop done (tasks (extents_of sheet p))
 
 pub sought-none : (sheet p : List ℕ) (done : ℕ) → Sought sheet p done 0 done
 sought-none sheet p done = record { extent = omega arith; here = ap (drop done) (sym (tasks-rest (extents_of sheet p))) }
@@ -174,30 +179,30 @@ module _ {sheet p : List ℕ} {done r left : ℕ} (h : Sought sheet p done r lef
     -- the extent is passed
     pub sought-more : x.words ≤ left → Sought sheet p done (r + 1) (left - x.words)
     sought-more l =
-        let all : drop x.words (ahead sheet p r 0) ≡ ahead sheet p (r + 1) 0
-        = ahead-drop sheet p r 0 x here inside x.words (omega arith) ∙ ap (ahead sheet p r) (zero-add x.words)
+        let all : drop x.words (ahead sheet p (word_at r 0)) ≡ ahead sheet p (word_at (r + 1) 0)
+        = ahead-drop sheet p r 0 x here inside x.words (omega arith) ∙ ap (λ w. ahead sheet p (word_at r w)) (zero-add x.words)
         ∙ ahead-next sheet p r x.words x here inside (omega arith) in
         let sum : x.words + (left - x.words) ≡ left = omega arith in
         record {
           extent = omega (arith, extents-length sheet p);
-          here = ap (drop (left - x.words)) (sym all) ∙ drop-drop (left - x.words) x.words (ahead sheet p r 0)
-              ∙ ap (λ n. drop n (ahead sheet p r 0)) sum ∙ h.here;
+          here = ap (drop (left - x.words)) (sym all) ∙ drop-drop (left - x.words) x.words (ahead sheet p (word_at r 0))
+              ∙ ap (λ n. drop n (ahead sheet p (word_at r 0))) sum ∙ h.here;
         }
 
     -- the cursor stands in it
-    pub sought-here : left < x.words → Stands sheet p done r left
+    pub sought-here : left < x.words → Stands sheet p done (word_at r left)
     sought-here l = record {
       cursor = record { extent = h.extent; word = rw (← here) (omega arith) };
-      left = ap (ahead sheet p r) (sym (zero-add left)) ∙ sym (ahead-drop sheet p r 0 x here inside left (omega arith)) ∙ h.here;
+      left = ap (λ w. ahead sheet p (word_at r w)) (sym (zero-add left)) ∙ sym (ahead-drop sheet p r 0 x here inside left (omega arith)) ∙ h.here;
     }
 
   -- or behind all extents
-  pub sought-end : extent_count p ≤ r → Stands sheet p done r 0
-  sought-end l =
-      let none_left : ahead sheet p r 0 ≡ [] = ahead-end sheet p r 0 l in
+  pub sought-end : (n : ℕ) → n ≡ extent_count p → n ≤ r → Stands sheet p done (word_at n 0)
+  sought-end n e l =
+      let none_left : ahead sheet p (word_at r 0) ≡ [] = ahead-end sheet p r 0 (omega (arith, e)) in
       record {
-        cursor = record { extent = h.extent; word = omega arith };
-        left = none_left ∙ sym (drop-nil left) ∙ ap (drop left) (sym none_left) ∙ h.here;
+        cursor = record { extent = omega (arith, e, extents-length sheet p); word = omega arith };
+        left = ahead-end sheet p n 0 (omega (arith, e)) ∙ sym (drop-nil left) ∙ ap (drop left) (sym none_left) ∙ h.here;
       }
 
 -- The cursor before each task
@@ -251,6 +256,6 @@ module _ (xs : List Extent) (k r w : ℕ) (h : Reached xs k r w) where
       ∙ ap (λ l. get_or l 0 no-task) first
 
 -- a turn from the beginning that stops within an extent stands there
-pub turn-reached : (sheet img p : List ℕ) (limit : ℕ) (t : Turned) (img' : List ℕ) → TurnSays sheet img p 0 0 limit t img'
-    → t.word < (get_or (extents_of sheet p) t.extent none).words → Reached (extents_of sheet p) t.made t.extent t.word
+pub turn-reached : (sheet img p : List ℕ) (limit : ℕ) (t : Turned) (img' : List ℕ) → TurnSays sheet img p (word_at 0 0) limit t img'
+    → t.cursor.word < (get_or (extents_of sheet p) t.cursor.extent none).words → Reached (extents_of sheet p) t.made t.cursor.extent t.cursor.word
 turn-reached sheet img p limit t img' h l = record { word = l; here = h.walked.left ∙ ap (drop t.made) (sym (tasks-rest (extents_of sheet p))) }

@@ -5,21 +5,22 @@ use Rattle.gsd_extents.specs.Exec.{Task, tasks, rest, exec}
 use Rattle.gsd_extents.specs.Extents.{none}
 use Rattle.gsd_steps.specs.Numbers.{rows_in}
 use Rattle.gsd_steps.specs.Steps.{front_of, extents_of}
+use Rattle.gsd_turns.specs.declared.turn.Cursor.{Cursor}
 use Rattle.gsd_turns.specs.declared.turn.Turned.{Turned}
 
 -- the tasks that are still to be done at a cursor
-abbrev pub ahead : List ℕ → List ℕ → ℕ → ℕ → List Task
-ahead sheet p r w = rest (drop r (extents_of sheet p)) w
+abbrev pub ahead : List ℕ → List ℕ → Cursor → List Task
+ahead sheet p c = rest (drop c.extent (extents_of sheet p)) c.word
 
 -- the cursor stands at an extent and within it, or behind all extents
-pub record Cursor (sheet p : List ℕ) (r w : ℕ) : Type 0 where
-  pub extent : r ≤ length (extents_of sheet p)
-  pub word : w ≤ (get_or (extents_of sheet p) r none).words
+pub record IsCursor (sheet p : List ℕ) (c : Cursor) : Type 0 where
+  pub extent : c.extent ≤ length (extents_of sheet p)
+  pub word : c.word ≤ (get_or (extents_of sheet p) c.extent none).words
 
 -- k tasks are done, and those behind them are left at the cursor
-pub record Stands (sheet p : List ℕ) (k r w : ℕ) : Type 0 where
-  pub cursor : Cursor sheet p r w
-  pub left : ahead sheet p r w ≡ drop k (tasks (extents_of sheet p))
+pub record Stands (sheet p : List ℕ) (k : ℕ) (c : Cursor) : Type 0 where
+  pub cursor : IsCursor sheet p c
+  pub left : ahead sheet p c ≡ drop k (tasks (extents_of sheet p))
 
 -- how many tasks a plan has, whatever the sheet: the words of steps 1 to 5, and four for each entry
 abbrev pub whole_of : List ℕ → ℕ
@@ -31,8 +32,8 @@ pub record Walked (sheet img₀ : List ℕ) (all : List Task) (k : ℕ) (img : L
   pub left : here ≡ drop k all
   pub within : k ≤ length all
 
--- a turn from the cursor r, w
-pub record TurnSays (sheet img p : List ℕ) (r w limit : ℕ) (t : Turned) (img' : List ℕ) : Type 0 where
-  pub walked : Walked sheet img (ahead sheet p r w) t.made img' (ahead sheet p t.extent t.word)
-  pub made : t.made ≡ min limit (length (ahead sheet p r w))
-  pub cursor : Cursor sheet p t.extent t.word
+-- a turn from the cursor c
+pub record TurnSays (sheet img p : List ℕ) (c : Cursor) (limit : ℕ) (t : Turned) (img' : List ℕ) : Type 0 where
+  pub walked : Walked sheet img (ahead sheet p c) t.made img' (ahead sheet p t.cursor)
+  pub made : t.made ≡ min limit (length (ahead sheet p c))
+  pub cursor : IsCursor sheet p t.cursor

@@ -15,8 +15,6 @@ use Rattle.gsd_format.specs.Search.{halve, first_id, walk, reach, searched}
 use Rattle.gsd_format.specs.Readers.{reader_of, reading, fits, entry_by, nth_part, name_by, ident_in, id_by, counted, find_by, found_for, lookup_by}
 use Rattle.gsd_format.specs.Readers.{place_behind, last_before, newest_by, holds, chunk_for}
 use Rattle.gsd_format.specs.Create.{or_default, create_test, fresh_header, fresh, create_number, created}
-use Rattle.gsd_format.specs.Answers.{listed_number, listed_values, place_number, place_values}
-use Rattle.gsd_format.specs.Answers.{reading_number, reading_values, ident_number, ident_values}
 use Rattle.gsd_stores.specs.Sheet.{body_size, bad_table, bodies_end, rows_at, rows_of, form_test, sheet_test}
 use Rattle.gsd_stores.specs.Stores.{after, words, up, down, slots_down}
 use Rattle.gsd_stores.specs.View.{view_of, end_of_use}
@@ -36,6 +34,6 @@ unfolding le le_bytes same zero_in stored ascii ◌⇒◌ ◌▹◌ one_of size_
     new_entries inserted sorted doubled plan_of clear_index clear_names store_texts moved move_names store_name store_names move_index entry_bytes
     index_bytes store_entries steps_of store_list image_test plan_test append_test stores_for appended nan_bits table_row sheet_a sheet_b made_in
     fresh_in in_version over in_segments image10 halve first_id walk reach searched reader_of reading fits entry_by nth_part name_by ident_in id_by
-    counted find_by found_for lookup_by place_behind last_before newest_by holds chunk_for listed_number listed_values place_number place_values
-    reading_number reading_values ident_number ident_values reader_in first_by next_by newest_in readers passes
+    counted find_by found_for lookup_by place_behind last_before newest_by holds chunk_for
+    reader_in first_by next_by newest_in readers passes
 readers-pass = refl

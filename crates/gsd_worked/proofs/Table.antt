@@ -17,7 +17,7 @@ use Rattle.gsd_format.specs.Calls.{unless, search_test}
 use Rattle.gsd_format.specs.Elements.{element_of, nan_element, any_nan, element_in, element}
 use Rattle.gsd_format.specs.Create.{or_default, create_test, fresh_header, fresh, create_number, created}
 use Rattle.gsd_format.specs.Listing.{digits, decimal, fields, entry_line, entry_lines, counts_line, listing, printed}
-use Rattle.gsd_format.specs.Answers.{opening_number, opening_values, listed_number, listed_values, place_number, place_values, element_number, bits64, element_values}
+use Rattle.gsd_format.specs.Answers.{bits64, number_values}
 use Rattle.gsd_stores.specs.Sheet.{body_size, bad_table, bodies_end, rows_at, rows_of, form_test, sheet_test}
 use Rattle.gsd_stores.specs.Stores.{after, words, up, down, slots_down}
 use Rattle.gsd_stores.specs.View.{view_of, end_of_use}
@@ -41,8 +41,8 @@ unfolding le le_bytes same zero_in stored ascii ◌⇒◌ ◌▹◌ size_of last
     names_of flat index_of entry_at entries_at entries_of frames_from header_test blocks_test unclosed_from open_name twins names_test
     repeated misplaced entry_test entries_test verdict counts_of
     opening nth_entry nth_name find_entry lookup_in lookup placed chunk_place bytes_at or_default create_test fresh_header
-    fresh create_number created digits decimal fields entry_line entry_lines counts_line listing printed opening_number
-    opening_values listed_number listed_values place_number place_values element_number bits64 element_values body_size
+    fresh create_number created digits decimal fields entry_line entry_lines counts_line listing printed
+    bits64 number_values body_size
     bad_table bodies_end rows_at rows_of one_of nan_bits top hid ones nan_element any_nan form_test sheet_test after words up down slots_down view_of chunks_end end_of_use bodies
     new_names new_entries inserted sorted doubled plan_of clear_index clear_names store_texts end_from moved move_names
     store_name store_names move_index entry_bytes index_bytes store_entries steps_of store_list image_test plan_test append_test

@@ -1,5 +1,6 @@
 -- The worked cases that are proved: each a list of numbers computed by the definitions, and what it must be.
-use Rattle.std.specs.Prelude.{ℕ, zero, suc, ◌+◌, ◌*◌, ◌-◌, ◌^◌, List, [], ◌∷◌, ◌++◌, map, Bool, true, ◌&&◌, get_or, length, take, drop, replicate}
+use Rattle.std.specs.Prelude.{ℕ, zero, suc, ◌+◌, ◌*◌, ◌-◌, ◌^◌, List, [], ◌∷◌, ◌++◌, map, Bool, true, ◌&&◌, get_or, length, take, drop, replicate, Result}
+use Rattle.gsd_format.specs.declared.Part.{Part}
 use Prim.Native.String.{String}
 use Rattle.gsd_format.specs.Bytes.{same, le, le_bytes, zeros, stored}
 use Rattle.gsd_format.specs.Ascii.{ascii}
@@ -10,9 +11,6 @@ use Rattle.gsd_format.specs.Names.{names_of, flat}
 use Rattle.gsd_format.specs.Entries.{n_place, location_place, entries_of}
 use Rattle.gsd_format.specs.Opening.{verdict}
 use Rattle.gsd_format.specs.declared.Entry.{Entry}
-use Rattle.gsd_format.specs.declared.Listed.{Listed}
-use Rattle.gsd_format.specs.declared.Place.{Place}
-use Rattle.gsd_format.specs.declared.Ident.{Ident}
 use Rattle.gsd_format.specs.declared.Reader.{Reader}
 use Rattle.gsd_format.specs.Lookup.{lookup, none}
 use Rattle.gsd_format.specs.Search.{binary_digits, probed, searched}
@@ -21,15 +19,13 @@ use Rattle.gsd_format.specs.Elements.{element}
 use Rattle.gsd_format.specs.Readers.{reading, entry_by, name_by, id_by, find_by, lookup_by, newest_by, chunk_place_by}
 use Rattle.gsd_format.specs.Create.{create_number, created}
 use Rattle.gsd_format.specs.Listing.{printed}
-use Rattle.gsd_format.specs.Answers.{listed_number, listed_values, element_values, place_number, place_values}
-use Rattle.gsd_format.specs.Answers.{reading_number, reading_values, ident_number, ident_values}
+use Rattle.gsd_format.specs.Answers.{number_of, listed_values, element_values, place_values, reading_values, ident_values}
 use Rattle.gsd_stores.specs.View.{View, view_of, end_of_use}
 use Rattle.gsd_stores.specs.Sheet.{Row, rows_of, sheet_test}
 use Rattle.gsd_stores.specs.Plan.{Plan, plan_of}
 use Rattle.gsd_stores.specs.Steps.{clear_index, clear_names, store_data, move_names, store_names, move_index, store_entries, name_block, index_block}
 use Rattle.gsd_stores.specs.Steps.{index_bytes}
-use Rattle.gsd_stores.specs.declared.Appended.{Appended}
-use Rattle.gsd_stores.specs.Append.{append_test, stores_for, step_five, append_answer, appended}
+use Rattle.gsd_stores.specs.Append.{Answer, append_test, stores_for, step_five, append_answer, appended}
 use Rattle.gsd_stores.specs.Runs.{frames}
 
 pub record Case : Type 0 where
@@ -128,9 +124,9 @@ table =
       expected = 0 ∷ 0 ∷ 2 ∷ 2 ∷ 3 ∷ [];
     }
     ∷ record { says = "in 703: 29"; got = append_test a703 sheet_b ∷ []; expected = 29 ∷ [] }
-    ∷ record { says = "frame 0, heater, after B: 42"; got = listed_number (lookup b 0 (ascii "heater")) ∷ []; expected = 42 ∷ [] }
-    ∷ record { says = "frame 2: 40"; got = listed_number (lookup b 2 (ascii "probe")) ∷ []; expected = 40 ∷ [] }
-    ∷ record { says = "name fan: 41"; got = listed_number (lookup b 1 (ascii "fan")) ∷ []; expected = 41 ∷ [] }
+    ∷ record { says = "frame 0, heater, after B: 42"; got = number_of (lookup b 0 (ascii "heater")) ∷ []; expected = 42 ∷ [] }
+    ∷ record { says = "frame 2: 40"; got = number_of (lookup b 2 (ascii "probe")) ∷ []; expected = 40 ∷ [] }
+    ∷ record { says = "name fan: 41"; got = number_of (lookup b 1 (ascii "fan")) ∷ []; expected = 41 ∷ [] }
     ∷ []
 
 -- the versions that grow: the same request on an image of 2.1, as create makes it, and on one of 2.0
@@ -175,7 +171,7 @@ entries_from frame (suc n) = record { frame = frame; n = 1; location = 256; m = 
 
 -- the search among n of them: its number, then the entries that it probes
 unfoldable pub search : ℕ → ℕ → ℕ → List ℕ
-search n frame id = listed_number (searched version21 frame id (entries_from 0 n)) ∷ probed version21 frame id (entries_from 0 n)
+search n frame id = number_of (searched version21 frame id (entries_from 0 n)) ∷ probed version21 frame id (entries_from 0 n)
 
 -- which entries are probed, in their order
 unfoldable pub probes : List Case
@@ -227,7 +223,7 @@ unfoldable pub sized : ℕ → List ℕ → List ℕ
 sized n img = stored img ((layout_of img).index + 2 * slot_size + n_place) (le_bytes 8 n)
 
 abbrev pub found : List ℕ → ℕ → String → ℕ
-found img frame name = listed_number (lookup img frame (ascii name))
+found img frame name = number_of (lookup img frame (ascii name))
 
 -- frames that wrote nothing: after B the entries are of probe, probe and heater
 unfoldable pub gaps : List Case
@@ -428,7 +424,7 @@ emptied place img = stored img place (le_bytes 8 257 ++ le_bytes 8 0)
 
 -- number, stores done, stores of the whole and entries copied
 unfoldable pub answered : List ℕ → List ℕ → ℕ → List ℕ
-answered img sheet limit = let a : Appended = append_answer img sheet limit in a.number ∷ a.done ∷ a.whole ∷ a.copied ∷ []
+answered img sheet limit = let a : Answer = append_answer img sheet limit in a.number ∷ a.done ∷ a.whole ∷ a.copied ∷ []
 
 -- images of 1.0: names in segments, entries in the order of writing, and no append
 unfoldable pub first10 : List Case
@@ -722,16 +718,16 @@ turns =
 
 -- opening's number and the reader's words; the number and the values of a reader's answers
 unfoldable pub reader_in : List ℕ → List ℕ
-reader_in img = reading_number (reading img) ∷ reading_values (reading img)
+reader_in img = number_of (reading img) ∷ reading_values (reading img)
 
-abbrev pub told_entry : Listed → List ℕ
-told_entry a = listed_number a ∷ listed_values a
+abbrev pub told_entry : Result Entry ℕ → List ℕ
+told_entry a = number_of a ∷ listed_values a
 
-abbrev pub told_place : Place → List ℕ
-told_place a = place_number a ∷ place_values a
+abbrev pub told_place : Result Part ℕ → List ℕ
+told_place a = number_of a ∷ place_values a
 
-abbrev pub told_id : Ident → List ℕ
-told_id a = ident_number a ∷ ident_values a
+abbrev pub told_id : Result ℕ ℕ → List ℕ
+told_id a = number_of a ∷ ident_values a
 
 -- a reader of 2.1 with its name list at 320
 abbrev pub by21 : ℕ → ℕ → ℕ → ℕ → ℕ → Reader
@@ -748,13 +744,13 @@ first_by r img =
 -- what sheet B adds
 unfoldable pub next_by : Reader → List ℕ → List ℕ
 next_by r img =
-    listed_number (lookup_by r img 1 (ascii "probe")) ∷ listed_number (lookup_by r img 0 (ascii "heater")) ∷ listed_number (find_by r img 0 1)
-    ∷ listed_number (newest_by r img 0 1) ∷ listed_number (entry_by r img 1) ∷ place_number (name_by r img 1)
-    ∷ ident_number (id_by r img (ascii "heater")) ∷ []
+    number_of (lookup_by r img 1 (ascii "probe")) ∷ number_of (lookup_by r img 0 (ascii "heater")) ∷ number_of (find_by r img 0 1)
+    ∷ number_of (newest_by r img 0 1) ∷ number_of (entry_by r img 1) ∷ number_of (name_by r img 1)
+    ∷ number_of (id_by r img (ascii "heater")) ∷ []
 
 -- the newest entry's number and place
 unfoldable pub newest_in : Reader → List ℕ → ℕ → ℕ → List ℕ
-newest_in r img frame id = let e : Listed = newest_by r img frame id in listed_number e ∷ take 3 (listed_values e)
+newest_in r img frame id = let e : Result Entry ℕ = newest_by r img frame id in number_of e ∷ take 3 (listed_values e)
 
 -- a reader answers as of its moment, from the bytes that are there
 unfoldable pub readers : List Case
@@ -806,8 +802,8 @@ readers =
     }
     ∷ record {
       says = "a word one too great: 33; the greatest fit, and what stands there is shown";
-      got = map (λ q. listed_number (entry_by q b 13)) (by21 2 2 14 256 6 ∷ by21 2 2 15 256 6 ∷ by21 2 2 14 257 6 ∷ [])
-          ++ map (λ q. place_number (name_by q b 1)) (by21 2 1024 3 576 384 ∷ by21 2 1025 3 576 384 ∷ by21 2 2 3 576 385 ∷ by21 2 2 3 576 12 ∷ []);
+      got = map (λ q. number_of (entry_by q b 13)) (by21 2 2 14 256 6 ∷ by21 2 2 15 256 6 ∷ by21 2 2 14 257 6 ∷ [])
+          ++ map (λ q. number_of (name_by q b 1)) (by21 2 1024 3 576 384 ∷ by21 2 1025 3 576 384 ∷ by21 2 2 3 576 385 ∷ by21 2 2 3 576 12 ∷ []);
       expected = 0 ∷ 33 ∷ 33 ∷ 0 ∷ 33 ∷ 33 ∷ 44 ∷ [];
     }
     ∷ record {

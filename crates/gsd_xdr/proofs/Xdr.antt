@@ -2,15 +2,16 @@
 use Prim.Native.Nat.{ℕ, zero, suc, ◌+◌, ◌*◌, ◌/◌, ◌%◌, ◌^◌, ◌<◌}
 use mathlib.Core.Path.{◌≡◌, refl, sym, ◌∙◌, ap}
 use mathlib.Core.List.{List, [], ◌∷◌, ◌++◌, append_assoc, append-nil}
-use native.Mathlib.Nat.{add-zero, add-suc, zero-add, zero-mul, suc-mul, mul_assoc, pow-suc, pow-succ', div-one, div-div-eq-div-mul}
-use native.Mathlib.Nat.{add-mul-div_left, div-eq_of_lt, mod-add-div}
+use native.Mathlib.Nat.{add-zero, add-suc, zero-mul, suc-mul, mul_assoc, pow-suc, pow-succ', div-one, div-div-eq-div-mul}
 use native.Mathlib.Numerals.{add-one}
 use native.Mathlib.Decide.{ℕ_discrete}
 use native.Mathlib.Omega.{arith}
 use lib.ListN.{length, get_or, length-append}
 use lib.Seq.{get_or_at}
+use Rattle.std.specs.Int.{w32, w64, swap_bytes, to_be_bytes, bytes_low_first, bytes_high_first}
+use Rattle.std.proofs.lemmas.Nat.{le_bytes_4, le_bytes_8}
 use Rattle.gsd_format.specs.Bytes.{le, le_bytes, stored}
-use Rattle.gsd_format.proofs.Bytes.{Text, le_bytes-append, stored-then}
+use Rattle.gsd_format.proofs.Bytes.{Text, stored-then}
 use Rattle.gsd_format.proofs.Texts.{text-front, text-back}
 use Rattle.gsd_xdr.specs.Xdr.{be, be_bytes, be_row, numbers}
 
@@ -49,20 +50,42 @@ low-be zero a b = refl
 low-be (suc k) a b =
     rw (byte_above a (256 ^ suc k * b) (256 ^ k * b) (one_more k b), rest-above a (256 ^ suc k * b) (256 ^ k * b) (one_more k b), low-be k (a / 256) b)
 
--- two halves with their bytes turned round, exchanged, are the whole turned round
-pub turn-halves : (k hi lo w : ℕ) → hi < 256 ^ k → le_bytes k hi ≡ be_bytes k (w / 256 ^ k) → le_bytes k lo ≡ be_bytes k (w % 256 ^ k) →
-    le_bytes (k + k) (hi + 256 ^ k * lo) ≡ be_bytes (k + k) w
-turn-halves k hi lo w l h g =
-    le_bytes-append k k (hi + 256 ^ k * lo)
-    ∙ (λ i. low-le k hi lo i ++ le_bytes k (above i))
-    ∙ (λ i. h i ++ (g ∙ low) i)
-    ∙ sym (be_bytes-append k k w)
-  where
-    above : (hi + 256 ^ k * lo) / 256 ^ k ≡ lo
-    above = add-mul-div_left hi lo (omega arith) ∙ ap (λ q. q + lo) (div-eq_of_lt l) ∙ zero-add lo
+-- std's bytes of a number, either way round
 
-    low : be_bytes k (w % 256 ^ k) ≡ be_bytes k w
-    low = sym (low-be k (w % 256 ^ k) (w / 256 ^ k)) ∙ ap (be_bytes k) (mod-add-div w (256 ^ k))
+low-first : (i k n : ℕ) → le_bytes k (n / 256 ^ i) ≡ bytes_low_first i k n
+unfolding le_bytes
+low-first i zero n = refl
+low-first zero (suc k) n = ap (λ m. m % 256 ∷ le_bytes k (m / 256)) (div-one n) ∙ ap (λ l. n % 256 ∷ l) (low-first 1 k n)
+low-first (suc i) (suc k) n =
+    ap (λ l. n / 256 ^ suc i % 256 ∷ l) (ap (le_bytes k) (div-div-eq-div-mul n (256 ^ suc i) 256 ∙ ap (λ p. n / p) (sym (pow-suc 256 (suc i)))) ∙ low-first (suc (suc i)) k n)
+
+high-first : (k n : ℕ) → bytes_high_first k n ≡ be_bytes k n
+unfolding be_bytes
+high-first zero n = refl
+high-first (suc zero) n = refl
+high-first (suc (suc k)) n =
+    let e : suc (suc k) ≡ 1 + suc k = omega arith in
+    ap (λ l. n / 256 ^ suc k % 256 ∷ l) (high-first (suc k) n) ∙ sym (ap (λ m. be_bytes m n) e ∙ be_bytes-append 1 (suc k) n)
+
+low_byte : (q : ℕ) → q % 256 < 256
+low_byte q = omega arith
+
+high-octets : (k n i : ℕ) → get_or (bytes_high_first k n) i 0 < 256
+high-octets zero n i = omega arith
+high-octets (suc zero) n zero = low_byte n
+high-octets (suc (suc k)) n zero = low_byte (n / 256 ^ suc k)
+high-octets (suc k) n (suc i) = high-octets k n i
+
+-- turned round by std, the bytes of a number are its own, the highest first
+pub swapped-single : (w : ℕ) → le_bytes 4 (swap_bytes w32 w) ≡ be_bytes 4 w
+swapped-single w =
+    ap (le_bytes 4) (sym (div-one _)) ∙ low-first 0 4 (swap_bytes w32 w)
+    ∙ le_bytes_4 (to_be_bytes w32 w) (swap_bytes w32 w) refl (high-octets 4 w) (omega arith) ∙ high-first 4 w
+
+pub swapped-double : (w : ℕ) → le_bytes 8 (swap_bytes w64 w) ≡ be_bytes 8 w
+swapped-double w =
+    ap (le_bytes 8) (sym (div-one _)) ∙ low-first 0 8 (swap_bytes w64 w)
+    ∙ le_bytes_8 (to_be_bytes w64 w) (swap_bytes w64 w) refl (high-octets 8 w) (omega arith) ∙ high-first 8 w
 
 -- a number reads back from where its bytes stand
 pub be-text : (k w : ℕ) (x : List ℕ) (at : ℕ) → w < 256 ^ k → Text x at (be_bytes k w) → be k x at ≡ w

@@ -1,16 +1,8 @@
--- `gsd_bytes::put_half` meets its contract: its stores are those of the four bytes in a row.
-use Rattle.std.proofs.Common.{arith, length-set}
-use Rattle.gsd_format.proofs.Bytes.{stored-four}
+-- `gsd_bytes::put_half` meets its contract: it stores the lower half of a word's bytes.
+use Rattle.std.proofs.Common.{◌∙◌, ap, take}
+use Rattle.gsd_format.specs.Bytes.{stored}
+use Rattle.gsd_bytes.proofs.Methods.{bytes-four}
 use Rattle.gsd_bytes.proofs.put_half.Goals as goal
 
-pub bounds-s-at-2 : goal.bounds-s-at-2
-bounds-s-at-2 c = simp length-set (omega arith)
-
-pub bounds-s-at-3 : goal.bounds-s-at-3
-bounds-s-at-3 c = simp length-set (omega arith)
-
-pub bounds-s-at-4 : goal.bounds-s-at-4
-bounds-s-at-4 c = simp length-set (omega arith)
-
 pub returns : goal.returns
-returns c = stored-four _ _ _
+returns c = c.put_text.ensures ∙ ap (stored _ _) (ap (take 4) c.to_le_bytes.ensures ∙ bytes-four _)

@@ -1,5 +1,5 @@
 -- `gsd_bytes::size_of` meets its contract: its table is that of the definition.
-use Rattle.std.proofs.Common.{◌≡◌, ℕ, suc, ◌≤◌, ◌⊎◌, sym, inl, inr, ⊎_elim, arith}
+use Rattle.std.proofs.Common.{sym, ⊎_elim, arith}
 use Rattle.gsd_format.specs.Types.{size_of}
 use Rattle.gsd_format.proofs.Types.{size-at, size_none}
 use Rattle.gsd_bytes.proofs.size_of.Goals as goal
@@ -20,22 +20,5 @@ pub returns-in-4-clause-answer : goal.returns-in-4-clause-answer
 unfolding size_of
 returns-in-4-clause-answer c = ⊎_elim (size-at 4 _) (⊎_elim (size-at 8 _) (size-at 10 _)) c.in-4.is
 
-either : {A B : Type 0} → (A ⊎ B → ⊥) → (A → ⊥) × (B → ⊥)
-either h = (λ a. h (inl a), λ b. h (inr b))
-
-past : {k x : ℕ} → k ≤ x → (x ≡ k → ⊥) → suc k ≤ x
-past l n = omega arith
-
--- a type above 0 that is in no arm lies past each of them, from 1 to 11
 pub returns-in_default-clause-answer : goal.returns-in_default-clause-answer
-returns-in_default-clause-answer c =
-    let r = c.in_default.in_default-own.rest in
-    let a = either r.0.0.0.1 in
-    let b = either r.0.0.1 in
-    let d = either r.0.1 in
-    let e = either r.1 in
-    let a' = either a.1 in
-    let d' = either d.1 in
-    let e' = either e.1 in
-    sym (size_none c.args.kind (λ l.
-    past (past (past (past (past (past (past (past (past (past (past l a.0) b.0) d.0) e.0) a'.0) b.1) d'.0) e'.0) d'.1) e'.1) a'.1))
+returns-in_default-clause-answer c = sym (size_none c.args.kind (λ l. grind arith))

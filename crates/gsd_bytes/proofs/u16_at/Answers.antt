@@ -1,7 +1,7 @@
 -- `gsd_bytes::u16_at` meets its contract.
-use Rattle.std.proofs.Common.{rules}
-use Rattle.gsd_format.proofs.Bytes.{le-two}
+use Rattle.std.proofs.Common.{◌∙◌}
+use Rattle.gsd_bytes.proofs.Methods.{read-part, read-two}
 use Rattle.gsd_bytes.proofs.u16_at.Goals as goal
 
 pub returns-clause-answer : goal.returns-clause-answer
-returns-clause-answer c = rw le-two (search rules)
+returns-clause-answer c = read-part 2 _ _ _ _ c.array_at.ensures (c.from.ensures ∙ c.from_le_bytes.ensures ∙ read-two _)

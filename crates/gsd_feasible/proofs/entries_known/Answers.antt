@@ -1,18 +1,17 @@
--- `gsd_feasible::entries_known` meets its contract. Invariant: the entries passed are known.
-use mathlib.Core.Path.{sym, ◌∙◌}
+-- `gsd_feasible::entries_known` meets its contract: the entries are known.
+use mathlib.Core.Path.{refl, ◌∙◌}
 use native.Mathlib.Omega.{arith}
-use borrow.Author.Rules.{rules}
-use Rattle.gsd_feasible.proofs.AllBelow.{one-fails, all_none, all_more, all_end}
+use Rattle.std.proofs.Common.{rules, tests}
+use Rattle.std.proofs.lemmas.Iterator.{YieldsList-from_range}
+use Rattle.std.proofs.lemmas.Iterator.Search.{all_from_yields_List}
+use Rattle.gsd_steps.specs.Numbers.{rows_in}
+use Rattle.gsd_feasible.specs.Feasible.{entry_known}
+use Rattle.gsd_feasible.proofs.AllBelow.{all-range}
 use Rattle.gsd_feasible.proofs.entries_known.Goals as goal
 
-pub loop-s-init : goal.loop-s-init
-loop-s-init c = (omega arith, all_none _)
-
-pub returns-then-not-entry_known : goal.returns-then-not-entry_known
-returns-then-not-entry_known c = sym (one-fails _ _ _ c.loop-s-test.true (sym c.entry_known.ensures ∙ c.if-not-entry_known.true))
-
-pub loop-s-preserved : goal.loop-s-preserved
-loop-s-preserved c = (search rules, all_more _ _ c.loop-s.invariant.1 (sym c.entry_known.ensures ∙ c.if-not-entry_known.false))
-
 pub returns : goal.returns
-returns c = all_end _ _ _ c.loop-s.invariant.0 c.loop-s-test.false c.loop-s.invariant.1
+returns c =
+    let p = c.args.plan.now in
+    let test = entry_known p in
+    all_from_yields_List test _ _ c.all.result c.all.ensures.ran (YieldsList-from_range 0 (rows_in p) (rows_in p) refl (omega arith)) (λ x b q k. search (rules, tests))
+    ∙ all-range test (rows_in p)

@@ -1,25 +1,23 @@
--- `gsd_feasible::front_keeps` meets its contract. Invariant: the extents passed keep to image and sheet.
-use mathlib.Core.Path.{sym, ◌∙◌, ap}
+-- `gsd_feasible::front_keeps` meets its contract: each extent keeps to image and sheet.
+use Prim.Native.Nat.{ℕ}
+use mathlib.Core.Path.{refl, ◌∙◌, ap}
+use mathlib.Core.Bool.{Bool}
 use native.Mathlib.Omega.{arith}
-use borrow.Author.Rules.{rules}
+use lib.ListN.{get_or}
+use Rattle.std.proofs.Common.{rules, tests}
+use Rattle.std.proofs.lemmas.Iterator.{YieldsList-from_range}
+use Rattle.std.proofs.lemmas.Iterator.Search.{all_from_yields_List}
 use Rattle.gsd_extents.specs.Exec.{keeps_to}
-use Rattle.gsd_feasible.proofs.AllBelow.{one-fails, all_none, all_more, all_end}
+use Rattle.gsd_extents.specs.Extents.{none}
+use Rattle.gsd_steps.specs.Steps.{front_of}
+use Rattle.gsd_feasible.specs.Feasible.{all_below}
+use Rattle.gsd_feasible.proofs.AllBelow.{all-range}
 use Rattle.gsd_feasible.proofs.front_keeps.Goals as goal
 
-pub loop-r-init : goal.loop-r-init
-loop-r-init c = (omega arith, all_none _)
-
-pub returns-then-not-keeps : goal.returns-then-not-keeps
-returns-then-not-keeps c =
-    sym (one-fails _ _ _ c.loop-r-test.true
-    (ap (keeps_to _ _) (sym c.front_extent.ensures) ∙ sym c.keeps.ensures ∙ c.if-not-keeps.true))
-
-pub loop-r-preserved : goal.loop-r-preserved
-loop-r-preserved c = (
-  search rules,
-  all_more _ _ c.loop-r.invariant.1
-      (ap (keeps_to _ _) (sym c.front_extent.ensures) ∙ sym c.keeps.ensures ∙ c.if-not-keeps.false),
-)
-
 pub returns : goal.returns
-returns c = all_end _ _ _ c.loop-r.invariant.0 c.loop-r-test.false c.loop-r.invariant.1
+returns c =
+    let p = c.args.front.plan.now in
+    let test : ℕ → Bool = λ r. keeps_to c.args.n c.args.m (get_or (front_of p) r none) in
+    all_from_yields_List test _ _ c.all.result c.all.ensures.ran (YieldsList-from_range 0 c.count.result c.count.result refl (omega arith)) (λ x b q k. search (rules, tests))
+    ∙ all-range test c.count.result
+    ∙ ap (λ k. all_below k test) c.count.ensures

@@ -1,19 +1,20 @@
--- `gsd_feasible::names_known` meets its contract. Invariant: the new names passed are of rows of the plan.
-use mathlib.Core.Path.{sym}
+-- `gsd_feasible::names_known` meets its contract: the new names are of rows of the plan.
+use Prim.Native.Nat.{ℕ}
+use mathlib.Core.Path.{refl, ◌∙◌}
+use mathlib.Core.Bool.{Bool}
 use native.Mathlib.Omega.{arith}
-use borrow.Author.Rules.{rules}
-use borrow.Author.Tests.{lt-ltb, le-ltb}
-use Rattle.gsd_feasible.proofs.AllBelow.{one-fails, all_none, all_more, all_end}
+use lib.Dec.{ltb}
+use Rattle.std.proofs.Common.{rules, tests}
+use Rattle.std.proofs.lemmas.Iterator.{YieldsList-from_range}
+use Rattle.std.proofs.lemmas.Iterator.Search.{all_from_yields_List}
+use Rattle.gsd_sheet.specs.Columns.{new_row}
+use Rattle.gsd_steps.specs.Numbers.{fresh_in}
+use Rattle.gsd_feasible.proofs.AllBelow.{all-range}
 use Rattle.gsd_feasible.proofs.names_known.Goals as goal
 
-pub loop-j-init : goal.loop-j-init
-loop-j-init c = (omega arith, all_none _)
-
-pub returns-then-plan-j-ge64 : goal.returns-then-plan-j-ge64
-returns-then-plan-j-ge64 c = sym (one-fails _ _ _ c.loop-j-test.true (le-ltb _ _ c.if-plan-j-ge64.true))
-
-pub loop-j-preserved : goal.loop-j-preserved
-loop-j-preserved c = (search rules, all_more _ _ c.loop-j.invariant.1 (lt-ltb _ _ c.if-plan-j-ge64.false))
-
 pub returns : goal.returns
-returns c = all_end _ _ _ c.loop-j.invariant.0 c.loop-j-test.false c.loop-j.invariant.1
+returns c =
+    let p = c.args.plan.now in
+    let test : ℕ → Bool = λ j. ltb (new_row p j) 64 in
+    all_from_yields_List test _ _ c.all.result c.all.ensures.ran (YieldsList-from_range 0 (fresh_in p) (fresh_in p) refl (omega arith)) (λ x b q k. search (rules, tests))
+    ∙ all-range test (fresh_in p)

@@ -16,6 +16,4 @@ pub returns-then-n-eq0 : goal.returns-then-n-eq0
 returns-then-n-eq0 c = ending-none _ (omega arith)
 
 pub returns : goal.returns
-returns c =
-    let s = c.args.s.now in
-    rw (c.wide.ensures.answer, c.wide-2.ensures.answer, c.wide-3.ensures.answer) (sym (ending-few s (omega arith)))
+returns c = c.from.ensures ∙ c.from_le_bytes.ensures ∙ sym (ending-few c.args.s.now (omega arith) ∙ omega arith)

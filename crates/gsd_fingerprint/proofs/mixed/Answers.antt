@@ -5,9 +5,6 @@ use Rattle.gsd_fingerprint.specs.Fingerprint.{mixed, stirred}
 use Rattle.gsd_fingerprint.proofs.Lanes.{upper-half, stirred-fits}
 use Rattle.gsd_fingerprint.proofs.mixed.Goals as goal
 
-pub overflow_mul-result-2 : goal.overflow_mul-result-2
-overflow_mul-result-2 c = record { fits = omega (arith, upper-half c.args.h c.args.w (omega arith) (omega arith)) }
-
 pub overflow_add-result : goal.overflow_add-result
 overflow_add-result c = record { fits = stirred-fits _ _ (omega arith) (upper-half c.args.h c.args.w (omega arith) (omega arith)) }
 

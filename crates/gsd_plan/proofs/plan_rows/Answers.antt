@@ -2,7 +2,7 @@
 use mathlib.Core.Path.{refl}
 use native.Mathlib.Omega.{arith}
 use borrow.Author.Rules.{rules}
-use Rattle.gsd_plan.proofs.Image.{seen-within, use-need, use-found, use-small}
+use Rattle.gsd_plan.proofs.Image.{use-need, use-found, use-small}
 use Rattle.gsd_plan.proofs.Tests.{plans-refused, plans-made}
 use Rattle.gsd_plan.proofs.AskedRows.{sheet-long, rows-laid, bytes_small, entries-small, sites-need}
 use Rattle.gsd_plan.proofs.Sited.{placed, sited, data-long, sites_long, room-met, countable, first_small, names-laid}
@@ -18,15 +18,12 @@ end_of_use-requires c =
     record { index = said.0; names = said.1.0; chunks = said.1.1 }
 
 pub place_data-position-requires : goal.place_data-position-requires
-place_data-position-requires c = record { long = c.requires.asked.long; laid = rows-laid c.requires.sees c.requires.asked _ c.row_count-rows.ensures (search rules); start = use-small _ _ c.requires.sees _ (use-found _ _ c.requires.sees _ c.end_of_use.ensures) }
+place_data-position-requires c = record { laid = rows-laid c.requires.sees c.requires.asked _ c.row_count-rows.ensures (search rules); start = use-small _ _ c.requires.sees _ (use-found _ _ c.requires.sees _ c.end_of_use.ensures) }
 
 pub returns-then-len-position : goal.returns-then-len-position
 returns-then-len-position c =
     let here = placed (c.requires.sees, c.requires.asked) c.row_count-rows.ensures c.end_of_use.ensures c.place_data-position.ensures in
     plans-refused _ _ _ 28 _ _ (data-long here c.if-len-position.true) refl
-
-pub overflow_sub-listed : goal.overflow_sub-listed
-overflow_sub-listed c = (seen-within _ _ c.requires.sees).low
 
 pub overflow_add-listed : goal.overflow_add-listed
 overflow_add-listed c = omega (arith, bytes_small c.requires.sees c.requires.asked (λ i. omega (arith, c.type_inv.sheet i)))
@@ -61,8 +58,8 @@ place_names-requires-clause-first c =
     let first = first_small (sited here c.find_sites-sites.ensures) c.if-len-sites.false _ c.block_at-names.ensures in
     first
 
-pub put_numbers-requires-clause-small : goal.put_numbers-requires-clause-small
-put_numbers-requires-clause-small c =
+pub put_numbers-requires : goal.put_numbers-requires
+put_numbers-requires c =
     let here = placed (c.requires.sees, c.requires.asked) c.row_count-rows.ensures c.end_of_use.ensures c.place_data-position.ensures in
     countable (sited here c.find_sites-sites.ensures) c.if-len-sites.false
 

@@ -1,10 +1,17 @@
 -- What passes the tests is written, and a refusal writes nothing.
-use mathlib.Core.Path.{sym, ◌∙◌}
-use Rattle.gsd_format.proofs.Refusals.{not-accepted, was-accepted}
+use mathlib.Core.Path.{◌∙◌}
+use native.Mathlib.Omega.{arith}
+use Rattle.gsd_format.proofs.Refusals.{not-accepted, was-accepted, refusal-some}
+use Rattle.gsd_format.proofs.Refusals.{kept}
 use Rattle.gsd_rawarray.proofs.rawarray_read.Goals as goal
 
-pub returns-then-number-ne0 : goal.returns-then-number-ne0
-returns-then-number-ne0 c = record { number = c.read_number-number.ensures; sheet = not-accepted _ _ _ _ c.read_number-number.ensures c.if-number-ne0.true }
+pub returns-in_err-head : goal.returns-in_err-head
+returns-in_err-head c =
+    let number = c.in_err-head.ensures.number in
+    record {
+      number = kept c.from_residual.result _ c.from_residual.ensures.1 ∙ number;
+      sheet = not-accepted _ _ _ _ number (λ z. omega (arith, refusal-some c.in_err-head.field-0.0, z));
+    }
 
 pub returns : goal.returns
-returns c = record { number = sym c.if-number-ne0.false ∙ c.read_number-number.ensures; sheet = was-accepted _ _ _ _ (sym c.if-number-ne0.false ∙ c.read_number-number.ensures) c.put_sheet.ensures }
+returns c = record { number = c.in_ok-head.ensures.number; sheet = was-accepted _ _ _ _ c.in_ok-head.ensures.number c.put_sheet.ensures }

@@ -1,26 +1,18 @@
 -- `gsd_states::begin` meets its contract.
-use mathlib.Core.Path.{sym, ◌∙◌}
-use Rattle.gsd_states.specs.States.{plan_in}
-use Rattle.gsd_states.proofs.Begins.{refused-begins, began-front, began-count, accepted-begins}
+use mathlib.Core.Path.{sym, ◌∙◌, ap}
+use Rattle.gsd_steps.specs.Steps.{copied_in}
+use Rattle.gsd_turns.specs.Turns.{whole_of}
+use Rattle.gsd_states.proofs.Begins.{began-front, began-count, accepted-begins}
 use Rattle.gsd_states.proofs.begin.Goals as goal
 
-pub returns-then-number-ne0 : goal.returns-then-number-ne0
-returns-then-number-ne0 c = refused-begins _ _ _ _ c.start-number.ensures.number c.if-number-ne0.true
+pub invariant_of-front : goal.invariant_of-front
+invariant_of-front c =
+    record { sound = rw c.plan_of-plan.ensures (began-front (sym c.in_ok-start.ensures.number) c.in_ok-start.ensures.state) }
 
 pub whole-requires : goal.whole-requires
-unfolding plan_in
-whole-requires c =
-    let zero = c.if-number-ne0.false in
-    record { sound = began-front (sym c.start-number.ensures.number ∙ zero) (c.start-number.ensures.state zero); count = began-count (sym c.start-number.ensures.number ∙ zero) (c.start-number.ensures.state zero) }
+whole-requires c = rw c.plan_of-plan.ensures (began-count (sym c.in_ok-start.ensures.number) c.in_ok-start.ensures.state)
 
-pub copied-requires : goal.copied-requires
-unfolding plan_in
-copied-requires c =
-    let zero = c.if-number-ne0.false in
-    began-front (sym c.start-number.ensures.number ∙ zero) (c.start-number.ensures.state zero)
-
-pub returns : goal.returns
-unfolding plan_in
-returns c =
-    let zero = c.if-number-ne0.false in
-    accepted-begins (sym c.start-number.ensures.number ∙ zero) (c.start-number.ensures.state zero) _ _ c.whole.ensures c.copied.ensures
+pub returns-clause-begun : goal.returns-clause-begun
+returns-clause-begun c =
+    let front = c.plan_of-plan.ensures in
+    accepted-begins (sym c.in_ok-start.ensures.number) c.in_ok-start.ensures.state _ _ (c.whole.ensures ∙ ap whole_of front) (c.copied.ensures ∙ ap copied_in front)

@@ -10,7 +10,7 @@ returns-in-0 c = rw c.in-0.is
 
 pub returns-in-1 : goal.returns-in-1
 unfolding of_four
-returns-in-1 c = rw c.in-1.is c.row_n.ensures
+returns-in-1 c = rw c.in-1.is c.n.ensures
 
 pub returns-in-2 : goal.returns-in-2
 unfolding of_four
@@ -19,5 +19,5 @@ returns-in-2 c = rw c.in-2.is c.meta_of.ensures
 pub returns-in_default : goal.returns-in_default
 unfolding of_four
 returns-in_default c =
-    let last : c.args.i ≡ 3 = omega (arith, c.in_default.in_default-own.rest, c.requires.long, c.requires.slot, c.requires.word, c.requires.row, c.requires.id) in
+    let last : c.args.i ≡ 3 = omega (arith, c.requires.word) in
     rw last

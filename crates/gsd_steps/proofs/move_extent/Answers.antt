@@ -16,7 +16,7 @@ unfolding move_extent
 returns-in-0 c =
     let b = c.args.b in
     let moves = ne_eqb b.count 0 c.if-b-eq0.false in
-    let size = c.words_of-listed.ensures ∙ ap (λ n. (n + 7) / 8) c.less.ensures in
+    let size = c.words_of-listed.ensures ∙ ap (λ n. (n + 7) / 8) c.saturating_sub.ensures in
     c.copy_extent.ensures ∙ ap (λ n. copied b.to n b.from b.until) size ∙ rw (c.in-0.is, moves)
 
 pub returns-in-1 : goal.returns-in-1
@@ -24,8 +24,8 @@ unfolding move_extent
 returns-in-1 c =
     let b = c.args.b in
     let moves = ne_eqb b.count 0 c.if-b-eq0.false in
-    let size = c.words_of-listed.ensures ∙ ap (λ n. (n + 7) / 8) c.less.ensures in
-    let left = c.less-in-1.ensures ∙ ap (λ n. b.words - n) size in
+    let size = c.words_of-listed.ensures ∙ ap (λ n. (n + 7) / 8) c.saturating_sub.ensures in
+    let left = c.saturating_sub-in-1.ensures ∙ ap (λ n. b.words - n) size in
     c.number_extent-in-1.ensures ∙ (λ i. number (b.to + 8 * size i) (left i) 0) ∙ rw (c.in-1.is, moves)
 
 pub returns-in-2 : goal.returns-in-2
@@ -37,5 +37,5 @@ pub returns-in_default : goal.returns-in_default
 unfolding move_extent
 returns-in_default c =
     let moves = ne_eqb c.args.b.count 0 c.if-b-eq0.false in
-    let last : c.args.k ≡ 3 = omega (arith, c.in_default.in_default-own.rest, c.requires.small, c.requires.header, c.requires.which) in
+    let last : c.args.k ≡ 3 = omega (arith, c.requires.which) in
     c.number_extent-in_default.ensures ∙ rw (last, moves)

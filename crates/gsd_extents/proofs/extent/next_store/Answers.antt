@@ -5,6 +5,3 @@ use Rattle.gsd_extents.proofs.extent.next_store.Goals as goal
 
 pub put_word-requires : goal.put_word-requires
 put_word-requires c = omega (arith, c.place.ensures, place-within c.args.extent c.args.w c.requires.word)
-
-pub returns : goal.returns
-returns c = record { next = rw (c.put_word.ensures, c.place.ensures, c.word_at-v.ensures) }

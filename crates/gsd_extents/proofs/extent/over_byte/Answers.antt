@@ -7,15 +7,15 @@ use Rattle.gsd_extents.proofs.extent.over_byte.Goals as goal
 pub returns-then-i-at-clause-answer : goal.returns-then-i-at-clause-answer
 returns-then-i-at-clause-answer c =
     let x = c.args in
-    c.wide.ensures.answer ∙ sym (over_below x.image.now x.sheet.now x.at x.from x.until (search rules) (search rules) x.i (search rules))
+    c.from.ensures ∙ sym (over_below x.image.now x.sheet.now x.at x.from x.until (search rules) (search rules) x.i (search rules))
 
 pub returns-then-k-until-clause-answer : goal.returns-then-k-until-clause-answer
 returns-then-k-until-clause-answer c =
     let x = c.args in
     let over = over-inside x.image.now x.sheet.now x.at x.from x.until (search rules) (search rules) x.i in
-    c.wide-then-k-until.ensures.answer ∙ sym (over (search rules) (search rules) (search rules))
+    c.from-then-k-until.ensures ∙ sym (over (search rules) (search rules) (search rules))
 
 pub returns-clause-answer : goal.returns-clause-answer
 returns-clause-answer c =
     let x = c.args in
-    c.wide-2.ensures.answer ∙ sym (over-above x.image.now x.sheet.now x.at x.from x.until (search rules) (search rules) x.i (search rules))
+    c.from-2.ensures ∙ sym (over-above x.image.now x.sheet.now x.at x.from x.until (search rules) (search rules) x.i (search rules))

@@ -1,11 +1,7 @@
 -- `gsd_extents::extent::stores_of_zeros` meets its contract. Invariant: the stores of the words from w up to the i-th are made,
 -- and the image is that after them.
-use Prim.Native.Nat.{◌-◌, ◌≤◌}
 use Rattle.gsd_extents.proofs.Tasks.{Made}
 use Rattle.gsd_extents.proofs.extent.stores_of_zeros.Given as goal
 
 abbrev pub invariant-loop-i : goal.invariant-loop-i
-invariant-loop-i l = (l.i ≤ l.end) × Made l.sheet l.initial.image l.zeros l.w l.i l.image
-
-abbrev pub decreases-loop-i : goal.decreases-loop-i
-decreases-loop-i l = l.end - l.i
+invariant-loop-i l = Made l.sheet l.initial.image l.extent l.w l.i l.image

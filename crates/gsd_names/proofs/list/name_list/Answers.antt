@@ -3,7 +3,7 @@ use mathlib.Core.Path.{sym, ◌∙◌}
 use Rattle.gsd_names.proofs.list.name_list.Goals as goal
 
 pub segment_list-requires : goal.segment_list-requires
-segment_list-requires c = record { segmented = sym c.is_10.ensures ∙ c.if-is_10.true; inside = c.requires.inside; short = c.requires.short; places = c.requires.places }
+segment_list-requires c = record { segmented = sym c.is_10.ensures ∙ c.if-is_10.true; inside = c.requires.inside; short = c.requires.short }
 
 pub joined_list-requires : goal.joined_list-requires
-joined_list-requires c = record { recent = sym c.is_10.ensures ∙ c.if-is_10.false; inside = c.requires.inside; short = c.requires.short; places = c.requires.places }
+joined_list-requires c = record { recent = sym c.is_10.ensures ∙ c.if-is_10.false; inside = c.requires.inside; short = c.requires.short }

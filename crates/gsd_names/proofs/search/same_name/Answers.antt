@@ -1,9 +1,9 @@
 -- `gsd_names::search::same_name` meets its contract: names of two sizes differ, and so do those with two last bytes; else their bytes tell.
 use Prim.Native.Nat.{◌-◌}
-use mathlib.Core.Path.{sym, ◌∙◌, ap}
+use mathlib.Core.Path.{sym, ap}
 use native.Mathlib.Omega.{arith}
 use lib.ListN.{length, get_or}
-use lib.Seq.{take-length, ext_get_or}
+use lib.Seq.{ext_get_or}
 use Rattle.gsd_format.proofs.Bytes.{eq-same, ne_same}
 use Rattle.gsd_names.proofs.search.same_name.Goals as goal
 
@@ -17,8 +17,3 @@ pub returns-then-a-n : goal.returns-then-a-n
 returns-then-a-n c =
     let x = c.args in
     sym (ne_same _ _ (λ e. c.if-a-n.true (ap (λ s. get_or s (length x.a.now - 1) 0) e)))
-
-pub returns : goal.returns
-returns c =
-    let x = c.args in
-    c.same_part.ensures ∙ rw (take-length x.a.now, c.if-n-b.false, take-length x.b.now)

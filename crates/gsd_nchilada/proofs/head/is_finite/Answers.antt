@@ -1,9 +1,8 @@
--- Only the NaN differs from itself; of any other the bits say whether it is finite.
-use Rattle.gsd_nchilada.proofs.Finite.{differs, equals}
+-- std's test is that of the bits, of a double as `x` is.
+use mathlib.Core.Path.{◌∙◌, subst⁻¹}
+use lib.Dec.{T}
+use Rattle.gsd_nchilada.proofs.Finite.{finite_is}
 use Rattle.gsd_nchilada.proofs.head.is_finite.Goals as goal
 
-pub returns-then-x : goal.returns-then-x
-returns-then-x c = differs _ c.if-x.true
-
-pub float_to_bits-result : goal.float_to_bits-result
-float_to_bits-result c = equals _ c.if-x.false
+pub returns : goal.returns
+returns c = c.is_finite.ensures.value ∙ finite_is c.args.x (subst⁻¹ T c.well_formed.0.1 tt)

@@ -6,11 +6,8 @@ use Rattle.gsd_body.proofs.Bodies.{store-more}
 use Rattle.gsd_nchilada.proofs.Files.{head-parts}
 use Rattle.gsd_nchilada.proofs.head.put_head.Goals as goal
 
-pub float_to_bits-time : goal.float_to_bits-time
-float_to_bits-time c = c.requires.number
-
 pub returns : goal.returns
 unfolding be_bytes
 returns c =
-    store-more _ _ _ 0 12 _ _ (store-more _ _ _ 0 4 _ _ c.put_be32.ensures refl c.put_be64.ensures) refl c.put_shape.ensures
+    store-more _ _ _ 0 12 _ _ (store-more _ _ _ 0 4 _ _ c.put_be.ensures refl c.put_be-2.ensures) refl c.put_shape.ensures
     ∙ ap (stored _ 0) (head-parts _ _)

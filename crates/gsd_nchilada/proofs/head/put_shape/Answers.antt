@@ -6,4 +6,4 @@ use Rattle.gsd_nchilada.proofs.head.put_shape.Goals as goal
 
 pub returns : goal.returns
 unfolding be_bytes
-returns c = store-more _ _ _ 12 24 _ _ (store-more _ _ _ 12 20 _ _ c.put_be64.ensures refl c.put_be32.ensures) refl c.put_be32-2.ensures
+returns c = store-more _ _ _ 12 24 _ _ (store-more _ _ _ 12 20 _ _ c.put_be.ensures refl c.put_be-2.ensures) refl c.put_be-3.ensures

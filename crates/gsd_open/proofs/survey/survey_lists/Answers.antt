@@ -1,33 +1,38 @@
 -- Names that are refused, or what the walk says.
-use mathlib.Core.Path.{sym, ◌∙◌}
+use mathlib.Core.Path.{sym}
 use native.Mathlib.Omega.{arith}
-use Rattle.gsd_open.proofs.Surveys.{laid-length, laid-short, laid-blocks, bad-names, few-found, walked}
+use Rattle.std.proofs.lemmas.Result.{err_from_is_err_and}
+use Rattle.gsd_open.proofs.Surveys.{laid-length, laid-short, laid-blocks, bad-names, few-found, walked-verdict, walked}
 use Rattle.gsd_open.proofs.survey.survey_lists.Goals as goal
 
-pub name_list-names-requires : goal.name_list-names-requires
-name_list-names-requires c =
-    let laid = c.requires.laid in
-    record { inside = omega (arith, laid-length _ _ laid, laid-blocks _ _ laid); short = laid-short _ _ laid; places = c.requires.places }
+pub checked_names-requires : goal.checked_names-requires
+checked_names-requires c =
+    let laid = c.requires in
+    record { inside = omega (arith, laid-length _ _ laid, laid-blocks _ _ laid); short = laid-short _ _ laid }
 
-pub names_number-number-requires : goal.names_number-number-requires
-names_number-number-requires c = c.name_list-names.ensures
+pub returns-in_err-names-clause-number : goal.returns-in_err-names-clause-number
+returns-in_err-names-clause-number c =
+    let p = err_from_is_err_and c.from_residual.result c.from_residual.ensures.1 in
+    rw (p.1, p.2) (bad-names _ _ c.requires _ c.in_err-names.ensures.number)
 
-pub returns-then-number-ne0 : goal.returns-then-number-ne0
-returns-then-number-ne0 c =
-    bad-names _ _ c.requires.laid _ _ (c.refusal.ensures ∙ c.names_number-number.ensures)
-    (λ z. c.if-number-ne0.true (sym c.refusal.ensures ∙ z))
+pub invariant_of-placed : goal.invariant_of-placed
+invariant_of-placed c =
+    let laid = c.requires in
+    let few = few-found _ _ laid _ _ (sym c.in_ok-names.ensures.number) c.in_ok-names.ensures.found in
+    record { good = laid-blocks _ _ laid; short = omega (arith, laid-length _ _ laid, laid-short _ _ laid); few = few }
 
-pub walk_listed-walk-requires : goal.walk_listed-walk-requires
-walk_listed-walk-requires c =
-    let laid = c.requires.laid in
-    let good = sym c.names_number-number.ensures ∙ c.if-number-ne0.false in
-    let few = few-found _ _ laid _ _ good c.name_list-names.ensures in
-    record { blocks = laid-blocks _ _ laid; short = omega (arith, laid-length _ _ laid, laid-short _ _ laid); long = sym (laid-length _ _ laid); few = few }
+pub walk-requires : goal.walk-requires
+walk-requires c = sym (laid-length _ _ c.requires)
 
-pub frames_to-requires : goal.frames_to-requires
-frames_to-requires c = c.walk_listed-walk.ensures.high
+pub returns-in_err-walk-clause-number : goal.returns-in_err-walk-clause-number
+returns-in_err-walk-clause-number c =
+    let names = c.in_ok-names.ensures in
+    let p = err_from_is_err_and c.from_residual-in_err-walk.result c.from_residual-in_err-walk.ensures.1 in
+    rw (p.1, p.2) (walked-verdict _ _ c.requires _ _ (sym names.number) names.found _ c.in_err-walk.ensures.number)
 
 pub returns : goal.returns
 returns c =
-    let good = sym c.names_number-number.ensures ∙ c.if-number-ne0.false in
-    walked _ _ c.requires.laid _ _ _ good c.name_list-names.ensures c.walk_listed-walk.ensures _ c.frames_to.ensures
+    let names = c.in_ok-names.ensures in
+    let walk = c.in_ok-walk.ensures in
+    let found = walked _ _ c.requires _ _ (sym names.number) names.found _ walk.number walk.walk _ c.frames_to.ensures in
+    record { number = sym found.opens; found = found }

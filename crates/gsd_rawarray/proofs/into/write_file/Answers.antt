@@ -9,20 +9,17 @@ use Rattle.gsd_rawarray.proofs.into.write_file.Goals as goal
 
 pub returns-then-file-size : goal.returns-then-file-size
 returns-then-file-size c =
-    let number = gives-77 c.args.e _ _ (size_exact _ _ c.requires _ c.chunk_bytes-size.ensures) c.if-file-size.true in
+    let number = gives-77 c.args.chunk.now.entry _ _ (size_exact _ _ c.args.chunk.now.held _ c.chunk_bytes-size.ensures) c.if-file-size.true in
     record { number = number; file = not-accepted 77 _ _ _ number (λ z. omega arith) }
 
 pub put_head-requires : goal.put_head-requires
-put_head-requires c = record { inside = omega (arith, c.if-file-size.false); kind = known-kind _ _ c.requires; size = size_exact _ _ c.requires _ c.chunk_bytes-size.ensures }
-
-pub copy_part-requires-clause-there : goal.copy_part-requires-clause-there
-copy_part-requires-clause-there c = omega (arith, c.requires.within, size_exact _ _ c.requires _ c.chunk_bytes-size.ensures)
+put_head-requires c = record { inside = omega (arith, c.if-file-size.false); kind = known-kind _ _ c.args.chunk.now.held; size = size_exact _ _ c.args.chunk.now.held _ c.chunk_bytes-size.ensures }
 
 pub returns : goal.returns
 returns c =
-    let exact = size_exact _ _ c.requires _ c.chunk_bytes-size.ensures in
+    let exact = size_exact _ _ c.args.chunk.now.held _ c.chunk_bytes-size.ensures in
     record {
-      number = gives_none c.args.e _ _ exact c.if-file-size.false;
-      file = was-accepted _ _ _ _ (gives_none c.args.e _ _ exact c.if-file-size.false) (file-written _ _ c.requires _ _ _ (c.if-file-size.false ∙ ap (λ n. 64 + n) exact) c.put_head.ensures
-          (c.copy_part.ensures ∙ ap (stored _ 64) (chunk_part _ _ c.requires _ exact)));
+      number = gives_none c.args.chunk.now.entry _ _ exact c.if-file-size.false;
+      file = was-accepted _ _ _ _ (gives_none c.args.chunk.now.entry _ _ exact c.if-file-size.false) (file-written _ _ c.args.chunk.now.held _ _ _ (c.if-file-size.false ∙ ap (λ n. 64 + n) exact) c.put_head.ensures
+          (c.copy_part.ensures ∙ ap (stored _ 64) (chunk_part _ _ c.args.chunk.now.held _ exact)));
     }

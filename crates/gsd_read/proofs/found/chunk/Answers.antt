@@ -4,6 +4,3 @@ use Rattle.gsd_read.proofs.found.chunk.Goals as goal
 
 pub part_at-requires : goal.part_at-requires
 part_at-requires c = rw c.chunk_place-place.ensures.value (chunk_inside _ _ _)
-
-pub returns : goal.returns
-returns c = record { result_value = rw (← c.chunk_place-place.ensures.value) c.part_at.ensures.result_value; itself = rw (← c.chunk_place-place.ensures.value) c.part_at.ensures.itself }

@@ -4,6 +4,3 @@ use Rattle.gsd_read.proofs.found.name_bytes.Goals as goal
 
 pub part_at-requires : goal.part_at-requires
 part_at-requires c = rw c.name.ensures.value (name-inside _ _)
-
-pub returns : goal.returns
-returns c = record { result_value = rw (← c.name.ensures.value) c.part_at.ensures.result_value; itself = rw (← c.name.ensures.value) c.part_at.ensures.itself }

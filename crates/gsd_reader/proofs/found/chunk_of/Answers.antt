@@ -1,7 +1,7 @@
 -- A chunk that lies in the image is no longer than it, so its size is exact.
+use Rattle.std.specs.Prelude.{Ok}
 use mathlib.Core.Path.{sym, ◌∙◌, refl}
 use native.Mathlib.Omega.{arith}
-use Rattle.gsd_format.specs.declared.Place.{Place}
 use Rattle.gsd_format.proofs.Readers.{chunk-held, chunk-33}
 use Rattle.gsd_reader.proofs.Fitting.{holding}
 use Rattle.gsd_reader.proofs.found.chunk_of.Goals as goal
@@ -13,4 +13,4 @@ pub returns : goal.returns
 returns c =
     let held = sym c.holds.ensures ∙ c.if-not-holds.false in
     let within = holding _ _ _ held c.requires in
-    (λ i. Place.At (record { start = c.args.e.location; size = c.chunk_bytes.ensures.exact (omega (arith, within.within, within.short)) i })) ∙ sym (chunk-held _ _ _ _ refl held)
+    (λ i. Ok (record { start = c.args.e.location; size = c.chunk_bytes.ensures.exact (omega (arith, within.within, within.short)) i })) ∙ sym (chunk-held _ _ _ _ refl held)

@@ -1,13 +1,18 @@
 -- The answer is that of the walk over the names.
-use mathlib.Core.Path.{sym, ◌∙◌}
+use mathlib.Core.Path.{sym, ◌∙◌, ap}
+use Rattle.std.specs.Prelude.{Err}
+use Rattle.std.proofs.lemmas.Result.{err_from_is_err_and}
+use Rattle.gsd_format.specs.Answers.{refusal_number}
+use Rattle.gsd_format.specs.Readers.{id_by}
 use Rattle.gsd_format.proofs.Readers.{id-33, id-fits}
 use Rattle.gsd_reader.proofs.found.id_by.Goals as goal
 
-pub returns-then-not-fits : goal.returns-then-not-fits
-returns-then-not-fits c = sym (id-33 _ _ (sym c.fits.ensures ∙ c.if-not-fits.true) _)
-
-pub ident_in-requires : goal.ident_in-requires
-ident_in-requires c = (sym c.fits.ensures ∙ c.if-not-fits.false)
+pub returns-in_err-of : goal.returns-in_err-of
+returns-in_err-of c =
+    let p = err_from_is_err_and c.from_residual.result c.from_residual.ensures.1 in
+    rw (p.1, p.2) (ap (λ w. Err (refusal_number w)) c.in_err-of.ensures.0 ∙ sym (id-33 _ _ c.in_err-of.ensures.1 _))
 
 pub returns : goal.returns
-returns c = c.ident_in.ensures ∙ sym (id-fits _ _ (sym c.fits.ensures ∙ c.if-not-fits.false) _)
+returns c =
+    let here = c.in_ok-of in
+    c.ident.ensures ∙ sym (id-fits _ _ here.field-0.fits _) ∙ (λ i. id_by (here.ensures.0 i) (here.ensures.1 i) c.args.name.now)

@@ -4,6 +4,3 @@ use Rattle.gsd_reader.proofs.found.name_bytes_by.Goals as goal
 
 pub part_at-requires : goal.part_at-requires
 part_at-requires c = rw c.name_by.ensures (name-inside _ _ _)
-
-pub returns : goal.returns
-returns c = record { result_value = rw (← c.name_by.ensures) c.part_at.ensures.result_value; itself = rw (← c.name_by.ensures) c.part_at.ensures.itself }

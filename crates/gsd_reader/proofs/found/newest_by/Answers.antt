@@ -1,33 +1,28 @@
--- The reader's query fits the image; a frame below the number of frames has one behind it.
-use mathlib.Core.Path.{sym, ◌∙◌, ap}
+-- A frame below the number of frames has one behind it, and so has an id.
+use mathlib.Core.Path.{sym, ◌∙◌}
 use native.Mathlib.Omega.{arith}
 use Rattle.gsd_format.specs.Readers.{place_behind, last_before}
-use Rattle.gsd_format.proofs.Readers.{newest-33, newest-fits, counted-frames, counted-names, counted-both}
+use Rattle.gsd_format.proofs.Readers.{newest-fits, counted-both}
 use Rattle.gsd_search.specs.Queries.{slots_for}
 use Rattle.gsd_reader.proofs.Fitting.{fitting}
-use Rattle.gsd_reader.proofs.Queries.{query-fits}
 use Rattle.gsd_reader.proofs.found.newest_by.Goals as goal
-
-pub returns-then-not-fits : goal.returns-then-not-fits
-returns-then-not-fits c = sym (newest-33 _ _ (sym c.fits.ensures ∙ c.if-not-fits.true) _ _)
-
-pub returns-then-r-frame : goal.returns-then-r-frame
-returns-then-r-frame c = sym (newest-fits _ _ (sym c.fits.ensures ∙ c.if-not-fits.false) _ _ ∙ counted-frames _ _ _ _ _ c.if-r-frame.true)
-
-pub returns-then-r-id : goal.returns-then-r-id
-returns-then-r-id c =
-    sym (newest-fits _ _ (sym c.fits.ensures ∙ c.if-not-fits.false) _ _ ∙ counted-names _ _ _ _ _ (omega (arith, c.if-r-frame.false))
-    c.if-r-id.true)
 
 pub newest_entry-requires : goal.newest_entry-requires
 newest_entry-requires c =
-    let fit = (sym c.fits.ensures ∙ c.if-not-fits.false) in
-    record { fits = rw c.query.ensures (query-fits _ _ _ _ fit (omega (arith, c.if-r-id.false))); frame = rw c.query.ensures (omega (arith, c.if-r-frame.false, c.struct_known-1.given)); id = rw c.query.ensures (omega (arith, c.if-r-id.false, (fitting _ _ fit).names)) }
+    let said = c.in_ok-search_by.ensures in
+    let asked = said.2 in
+    record {
+      frame = rw said.0 (omega (arith, asked.of_frame));
+      id = rw said.0 (omega (arith, asked.of_id, (fitting _ _ asked.fitting).names));
+    }
 
 pub returns : goal.returns
 returns c =
-    let img = c.args.image.now in
+    let said = c.in_ok-search_by.ensures in
+    let asked = said.2 in
     c.newest_entry.ensures
-    ∙ ap (λ q. last_before q.id (slots_for img q) (place_behind q.version q.frame q.id (slots_for img q))) c.query.ensures
-    ∙ sym (newest-fits _ _ (sym c.fits.ensures ∙ c.if-not-fits.false) _ _ ∙ counted-both _ _ _ _ _ (omega (arith, c.if-r-frame.false))
-    (omega (arith, c.if-r-id.false)))
+    ∙ (λ i.
+    let q = said.0 i in
+    let es = slots_for (said.1 i) q in
+    last_before q.id es (place_behind q.version q.frame q.id es))
+    ∙ sym (newest-fits _ _ asked.fitting _ _ ∙ counted-both _ _ _ _ _ asked.of_frame asked.of_id)

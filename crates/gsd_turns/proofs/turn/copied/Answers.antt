@@ -8,7 +8,7 @@ use Rattle.gsd_turns.proofs.turn.copied.Goals as goal
 
 pub returns : goal.returns
 returns c =
-    let p = c.args.plan.now in
+    let p = c.args.front.plan.now in
     ap (λ e. e.words / 4)
-    (c.front_extent-x.ensures ∙ at_slots p _ (omega arith) (omega arith) (omega arith) (omega arith) (omega arith)
+    (c.extent_at-x.ensures ∙ at_slots p _ (omega arith) (omega arith) (omega arith) (omega arith) (omega arith)
     ∙ ap (move_extent (index_move p)) (omega arith))

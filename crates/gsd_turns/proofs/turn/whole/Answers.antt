@@ -1,5 +1,4 @@
 -- `gsd_turns::turn::whole` meets its contract: the words of the extents are summed extent by extent.
-use borrow.Author.Rules.{rules}
 use Prim.Native.Nat.{◌+◌}
 use mathlib.Core.Path.{◌≡◌, sym, ◌∙◌, ap}
 use native.Mathlib.Omega.{arith}
@@ -8,24 +7,21 @@ use Rattle.gsd_turns.proofs.Count.{counted, counted_none, counted-more, counted-
 use Rattle.gsd_turns.proofs.turn.whole.Goals as goal
 
 pub loop-r-init : goal.loop-r-init
-loop-r-init c = (search rules, sym (counted_none c.args.plan.now))
-
-pub front_extent-x-requires : goal.front_extent-x-requires
-front_extent-x-requires c = record { sound = c.requires.sound; extent = omega (arith, c.loop-r-test.true) }
+loop-r-init c = sym (counted_none c.args.front.plan.now)
 
 pub overflow_add-sum : goal.overflow_add-sum
 overflow_add-sum c =
-    let p = c.args.plan.now in
-    let more = counted-more p c.loop-r.r c.front_extent-x.result c.front_extent-x.ensures (omega (arith, c.loop-r-test.true)) in
-    omega (arith, c.loop-r.invariant.1, more, counted-within p (c.loop-r.r + 1), c.requires.count)
+    let p = c.args.front.plan.now in
+    let more = counted-more p c.loop-r.r c.extent_at.result c.extent_at.ensures (omega (arith, c.loop-r-test.true)) in
+    omega (arith, c.loop-r.invariant, more, counted-within p (c.loop-r.r + 1), c.requires)
 
 pub loop-r-preserved : goal.loop-r-preserved
 loop-r-preserved c =
-    let more = counted-more c.args.plan.now c.loop-r.r c.front_extent-x.result c.front_extent-x.ensures (omega (arith, c.loop-r-test.true)) in
-    (search rules, omega (arith, c.loop-r.invariant.1, more))
+    let more = counted-more c.args.front.plan.now c.loop-r.r c.extent_at.result c.extent_at.ensures (omega (arith, c.loop-r-test.true)) in
+    omega (arith, c.loop-r.invariant, more)
 
 pub returns : goal.returns
 returns c =
-    let p = c.args.plan.now in
-    let done : c.loop-r.r ≡ front_count p = omega (arith, c.loop-r-test.false, c.loop-r.invariant.0) in
-    c.loop-r.invariant.1 ∙ ap (counted p) done ∙ counted-all p
+    let p = c.args.front.plan.now in
+    let done : c.loop-r.r ≡ front_count p = omega (arith, c.loop-r-test.false) in
+    c.loop-r.invariant ∙ ap (counted p) done ∙ counted-all p

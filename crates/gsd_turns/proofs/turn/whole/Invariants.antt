@@ -1,11 +1,7 @@
 -- `gsd_turns::turn::whole` meets its contract: the words of the extents are summed extent by extent.
-use Prim.Native.Nat.{◌-◌, ◌≤◌}
 use mathlib.Core.Path.{◌≡◌}
 use Rattle.gsd_turns.proofs.Count.{counted}
 use Rattle.gsd_turns.proofs.turn.whole.Given as goal
 
 abbrev pub invariant-loop-r : goal.invariant-loop-r
-invariant-loop-r l = (l.r ≤ l.count) × (l.sum ≡ counted l.plan l.r)
-
-abbrev pub decreases-loop-r : goal.decreases-loop-r
-decreases-loop-r l = l.count - l.r
+invariant-loop-r l = l.sum ≡ counted l.front.plan.now l.r

@@ -16,7 +16,7 @@ carry_on-made-requires c =
     let x = c.args in
     let fit = sym c.fits.ensures ∙ c.if-not-fits.false in
     let ready = fits-ready x.self.words x.image.now x.sheet.now (search rules) fit in
-    record { long = search rules; header = ready.0; ready = ready.1 }
+    record { header = ready.0; ready = ready.1 }
 
 pub returns : goal.returns
 returns c =

@@ -1,8 +1,0 @@
--- `gsd_append::state::refused_state` meets its contract.
-use mathlib.Core.Path.{refl}
-use Rattle.gsd_append.specs.Turns.{refused_state}
-use Rattle.gsd_append.proofs.state.refused_state.Goals as goal
-
-pub returns : goal.returns
-unfolding refused_state
-returns c = refl

@@ -1,0 +1,2 @@
+-- What a request that passes its tests asks for.
+pub mod Asked

@@ -1,0 +1,8 @@
+-- The number turned round is stored little-endian.
+use mathlib.Core.Path.{◌∙◌, ap}
+use Rattle.gsd_format.specs.Bytes.{le_bytes, stored}
+use Rattle.gsd_xdr.proofs.Xdr.{swapped-double}
+use Rattle.gsd_xdr.proofs.U64Number.put_be.Goals as goal
+
+pub returns : goal.returns
+returns c = c.put_word.ensures ∙ ap (stored _ _) (ap (le_bytes 8) c.swap_bytes.ensures ∙ swapped-double c.args.self)

@@ -1,7 +1,0 @@
--- The number turned round is stored little-endian.
-use mathlib.Core.Path.{◌∙◌, ap}
-use Rattle.gsd_format.specs.Bytes.{stored}
-use Rattle.gsd_xdr.proofs.put_be32.Goals as goal
-
-pub returns : goal.returns
-returns c = c.put_half.ensures ∙ ap (stored _ _) c.turned32.ensures.answer
